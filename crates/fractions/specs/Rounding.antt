@@ -1,0 +1,16 @@
+-- The whole numbers next to a fraction. 01, "Ladder and figures": "rounded down", "rounded up".
+-- Assumes nothing.
+use Prim.Native.Nat.{ℕ, _+_, _-_, _/_}
+use Rattle.fractions.specs.declared.Bounds.{Bounds}
+use Rattle.fractions.specs.Fraction.{Fraction}
+
+-- the largest whole number not above p
+abbrev pub floor : Fraction → ℕ
+floor p = p .num / p .den
+
+-- the least whole number not below p
+abbrev pub ceiling : Fraction → ℕ
+ceiling p = (p .num + (p .den - 1)) / p .den
+
+abbrev pub rounded : Fraction → Bounds
+rounded p = record { lower = floor p; upper = ceiling p }

@@ -1,0 +1,5 @@
+pub mod Sums
+pub mod Strips
+pub mod Enclosure
+pub mod Tables
+pub mod Logarithm

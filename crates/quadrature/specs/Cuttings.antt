@@ -1,0 +1,19 @@
+-- The exact sums of a cutting m, in fractions. 01, "Ladder and figures": "with strips j = mD to mE − 1, the under-sum adds 2/(2j+1) and
+-- the over-sum adds (2j+1)/(2j(j+1)), the unit strip being cut in m." These are the midpoint and the trapezoidal rule for the logarithm.
+-- Assumes nothing.
+use Prim.Native.Nat.{ℕ, _+_, _-_, _*_}
+use Rattle.fractions.specs.Fraction.{Fraction, _over_}
+use Rattle.quadrature.specs.Sums.{series}
+
+abbrev pub midpoint : ℕ → Fraction
+midpoint j = 2 over (2 * j + 1)
+
+abbrev pub trapezoid : ℕ → Fraction
+trapezoid j = (2 * j + 1) over (2 * j * (j + 1))
+
+-- the under-sum and the over-sum from D to E
+unfoldable pub lowerSum : ℕ → ℕ → ℕ → Fraction
+lowerSum m D E = series midpoint (m * D) (m * E - m * D)
+
+unfoldable pub upperSum : ℕ → ℕ → ℕ → Fraction
+upperSum m D E = series trapezoid (m * D) (m * E - m * D)

@@ -1,0 +1,5 @@
+pub mod Units
+pub mod Ladder
+pub mod Sums
+pub mod Figures
+pub mod Cuttings

@@ -1,0 +1,27 @@
+// The thicknesses that insulation comes in.
+ghost use mathlib.Core.Path.{_≡_};
+ghost use Rattle.quadrature.specs.Ladder.{thicknessAt};
+use crate::Thickness;
+
+pub struct Ladder;
+
+impl Ladder {
+    // The step from one rung to the next and the last rung, in millimetres.
+    pub const GRADE: u64 = 10;
+
+    pub const TOP: u64 = 300;
+
+    // How many rungs there are: bare pipe is the first.
+    pub const RUNGS: u64 = Self::TOP / Self::GRADE + 1;
+
+    // The thickness of the rung with index r; an index above the last rung's means the last rung.
+    pub fn thickness(r: u64) -> Thickness
+        ensures { λ t. ⌜ t .0 ≡ thicknessAt r ⌝ }
+    {
+        if r < Self::RUNGS {
+            Thickness(Self::GRADE * r)
+        } else {
+            Thickness(Self::TOP)
+        }
+    }
+}

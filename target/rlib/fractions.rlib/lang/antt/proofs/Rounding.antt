@@ -1,0 +1,35 @@
+-- A fraction rounded down is the largest whole number not above it; rounded up, the least not below it.
+-- Assumes nothing.
+use mathlib.Core.Path.{_≡_, ap}
+use Prim.Native.Nat.{ℕ, _+_, _-_, _*_, _/_, _%_, _≤_, _<_}
+use native.Mathlib.Nat.{div-mul-le-self, lt-div-mul-add, div-add-mod', mod-lt, div-eq-of-lt-le, pos-of-ne-zero, le-mul-of-pos-right}
+use native.Mathlib.Omega.{arith}
+use Rattle.fractions.specs.Fraction.{Fraction, _over_}
+use Rattle.fractions.specs.Rounding.{floor, ceiling}
+
+pub floor-below : (p : Fraction) → floor p * p .den ≤ p .num
+floor-below p = div-mul-le-self (p .num) (p .den)
+
+pub below-next : (p : Fraction) → 0 < p .den → p .num < (floor p + 1) * p .den
+below-next p pos = omega (arith, lt-div-mul-add {a = p .num} pos)
+
+pub ceiling-above : (p : Fraction) → 0 < p .den → p .num ≤ ceiling p * p .den
+ceiling-above p pos = omega (arith, lt-div-mul-add {a = p .num + (p .den - 1)} pos)
+
+pub above-previous : (p : Fraction) → 0 < p .den → 0 < ceiling p → (ceiling p - 1) * p .den < p .num
+above-previous p pos some =
+    let down : (ceiling p - 1 + 1) * p .den ≡ ceiling p * p .den = ap (λ x. x * p .den) (omega arith) in
+    omega (arith, div-mul-le-self (p .num + (p .den - 1)) (p .den))
+
+-- by one division: the quotient itself where nothing is left over, else the next number
+module _ (n d : ℕ) (pos : 0 < d) where
+  pub ceiling-whole : n % d ≡ 0 → ceiling (n over d) ≡ n / d
+  ceiling-whole none = div-eq-of-lt-le d {m = n + (d - 1)} (omega (arith, div-add-mod' n d)) (omega (arith, div-add-mod' n d))
+
+  pub ceiling-next : ¬ (n % d ≡ 0) → ceiling (n over d) ≡ n / d + 1
+  ceiling-next some =
+      let left : 0 < n % d = pos-of-ne-zero some in
+      div-eq-of-lt-le d {m = n + (d - 1)} (omega (arith, div-add-mod' n d)) (omega (arith, div-add-mod' n d, mod-lt n pos))
+
+  pub next-fits : ¬ (n % d ≡ 0) → n / d + 1 ≤ n
+  next-fits some = omega (arith, pos-of-ne-zero some, le-mul-of-pos-right (n / d) pos, div-add-mod' n d)
