@@ -1,0 +1,71 @@
+-- The whole roots lie on either side of the root, next to it, and nothing else does.
+-- Assumes nothing.
+use mathlib.Core.Path.{_≡_, refl, sym}
+use mathlib.Core.Bool.{Bool, true, false}
+use mathlib.Core.Logic.{⊎-elim}
+use Prim.Native.Nat.{ℕ, zero, suc, _+_, _-_, _*_, _≤_, _<_}
+use native.Mathlib.Nat.{le-trans, lt-of-le-of-lt, lt-of-not-le, not-le-of-lt, le-of-suc-le-suc, not-suc-le-zero, le-suc-iff}
+use native.Mathlib.Omega.{arith}
+use lib.Dec.{leb}
+use borrow.Author.Tests.{le-leb, leb-true, leb-false}
+use Rattle.fractions.specs.Fraction.{Fraction}
+use Rattle.roots.specs.Root.{largest, least, floorRoot, ceilingRoot}
+use Rattle.roots.proofs.Squares.{square-le, root-lt, self-le}
+
+-- The largest that passes does pass, and nothing above it does.
+largest-passes : (p : ℕ → Bool) (n : ℕ) → p 0 ≡ true → (p (largest p n) ≡ true) × ((x : ℕ) → largest p n < x → x ≤ n → p x ≡ false)
+unfolding largest
+largest-passes p zero t = (t, λ x lt le. absurd (omega arith))
+largest-passes p (suc n) t = go (p (suc n)) refl (largest-passes p n t)
+  where
+    go : (b : Bool) → p (suc n) ≡ b → (p (largest p n) ≡ true) × ((x : ℕ) → largest p n < x → x ≤ n → p x ≡ false)
+        → let r : ℕ = elim b as (λ _. ℕ) [ true ↦ suc n | false ↦ largest p n ] in (p r ≡ true) × ((x : ℕ) → r < x → x ≤ suc n → p x ≡ false)
+    go true e rest = (e, λ x lt le. absurd (omega arith))
+    go false e rest = (rest .0, λ x lt le. ⊎-elim (λ (k : x ≤ n). rest .1 x lt k) (λ (k : x ≡ suc n). rw k e) (le-suc-iff .0 le))
+
+-- The least that passes does pass, and nothing below it does.
+least-passes : (p : ℕ → Bool) (n : ℕ) → p n ≡ true → (p (least p n) ≡ true) × ((x : ℕ) → x < least p n → p x ≡ false)
+unfolding least
+least-passes p zero t = (t, λ x lt. absurd (not-suc-le-zero lt))
+least-passes p (suc n) t = go (p 0) refl (least-passes (λ m. p (suc m)) n t)
+  where
+    rest : ℕ
+    rest = least (λ m. p (suc m)) n
+
+    go : (b : Bool) → p 0 ≡ b → (p (suc rest) ≡ true) × ((x : ℕ) → x < rest → p (suc x) ≡ false)
+        → let r : ℕ = elim b as (λ _. ℕ) [ true ↦ 0 | false ↦ suc rest ] in (p r ≡ true) × ((x : ℕ) → x < r → p x ≡ false)
+    go true e later = (e, λ x lt. absurd (not-suc-le-zero lt))
+    go false e later = (later .0, λ x. elim x as (λ x. x < suc rest → p x ≡ false) [ zero ↦ λ lt. e | suc y ↦ λ lt. later .1 y (le-of-suc-le-suc lt) ])
+
+module _ (p : Fraction) (pos : 0 < p .den) where
+  pub floor-root-below : floorRoot p * floorRoot p * p .den ≤ p .num
+  unfolding floorRoot
+  floor-root-below = leb-true _ _ (largest-passes (λ r. leb (r * r * p .den) (p .num)) (p .num) (le-leb (0 * 0 * p .den) (p .num) (omega arith)) .0)
+
+  pub below-next-root : p .num < (floorRoot p + 1) * (floorRoot p + 1) * p .den
+  unfolding floorRoot
+  below-next-root =
+      let r = floorRoot p in
+      let above = largest-passes (λ r. leb (r * r * p .den) (p .num)) (p .num) (le-leb (0 * 0 * p .den) (p .num) (omega arith)) .1 (r + 1) (omega arith) in
+      lt-of-not-le (λ le. not-le-of-lt (leb-false _ _ (above (le-trans (self-le (r + 1) pos) le))) le)
+
+  pub ceiling-root-above : p .num ≤ ceilingRoot p * ceilingRoot p * p .den
+  unfolding ceilingRoot
+  ceiling-root-above = leb-true _ _ (least-passes (λ r. leb (p .num) (r * r * p .den)) (p .num) (le-leb _ _ (self-le (p .num) pos)) .0)
+
+  pub above-previous-root : 0 < ceilingRoot p → (ceilingRoot p - 1) * (ceilingRoot p - 1) * p .den < p .num
+  unfolding ceilingRoot
+  above-previous-root some = leb-false _ _ (least-passes (λ r. leb (p .num) (r * r * p .den)) (p .num) (le-leb _ _ (self-le (p .num) pos)) .1 (ceilingRoot p - 1) (omega arith))
+
+  -- no other number has these properties
+  pub floor-root-is : (n : ℕ) → n * n * p .den ≤ p .num → p .num < (n + 1) * (n + 1) * p .den → n ≡ floorRoot p
+  floor-root-is n low next =
+      let up : n < floorRoot p + 1 = root-lt (p .den) (lt-of-le-of-lt low below-next-root) in
+      let down : floorRoot p < n + 1 = root-lt (p .den) (lt-of-le-of-lt floor-root-below next) in
+      omega arith
+
+  pub ceiling-root-is : (n : ℕ) → p .num ≤ n * n * p .den → ((x : ℕ) → x < n → x * x * p .den < p .num) → n ≡ ceilingRoot p
+  ceiling-root-is n high before =
+      let up : n < suc (ceilingRoot p) = lt-of-not-le (λ lt. not-le-of-lt (before (ceilingRoot p) lt) ceiling-root-above) in
+      let down : ceilingRoot p < suc n = lt-of-not-le (λ lt. not-le-of-lt (above-previous-root (omega arith)) (le-trans high (square-le (p .den) (omega arith)))) in
+      omega arith
