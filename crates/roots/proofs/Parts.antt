@@ -53,7 +53,7 @@ found k n d u v pos low fits over-v =
     let s : ℕ = gap k n d u - v * (2 * (k * u) + v) in
     let t : ℕ = k * k * (n % d) % d in
     let e : k * k * n ≡ ((k * u + v) * (k * u + v) + s) * d + t =
-        whole k n d u v (n / d) (n % d) (n / d - u * u) (k * k * (n % d) / d) s t (div-add-mod' n d) (add-sub-of-le low) (div-add-mod' (k * k * (n % d)) d) (add-sub-of-le fits) in
+    whole k n d u v (n / d) (n % d) (n / d - u * u) (k * k * (n % d) / d) s t (div-add-mod' n d) (add-sub-of-le low) (div-add-mod' (k * k * (n % d)) d) (add-sub-of-le fits) in
     let short : s < 2 * (k * u + v) + 1 = omega arith in
     let rest : t < d = mod-lt (k * k * (n % d)) pos in
     record {

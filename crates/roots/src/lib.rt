@@ -39,7 +39,10 @@ pub fn root(k: u64, n: u64, d: u64) -> Bounds
     let lower = a + v;
     let left = gap - v * (2 * a + v) + part % d;
     if left == 0 {
-        Bounds { lower, upper: lower }
+        Bounds {
+            lower,
+            upper: lower,
+        }
     } else {
         Bounds {
             lower,

@@ -1,0 +1,52 @@
+-- `annex::put_line` meets its contract: the three fields are one piece.
+-- Assumes nothing.
+use native.Mathlib.Omega.{arith}
+use borrow.Author.Needs.{needs}
+use Rattle.fractions.proofs.Sides.{lower-of, upper-of}
+use Rattle.text.proofs.Overlay.{then}
+use Rattle.annex.specs.Page.{line}
+use Rattle.annex.proofs.put_line.Statement.{statement}
+use Rattle.annex.proofs.put_line.Tie as tie
+
+entry-requires : tie.Need-entry-requires
+entry-requires c κs = search needs
+
+add-put-field : tie.Need-add-put-field
+add-put-field c = search needs
+
+put-field-requires : tie.Need-put-field-requires
+put-field-requires c κs = search needs
+
+put-field-requires-2 : tie.Need-put-field-requires-2
+put-field-requires-2 c κs = search needs
+
+put-field-requires-3 : tie.Need-put-field-requires-3
+put-field-requires-3 c κs = search needs
+
+same-length : tie.Need-same-length
+same-length c = search needs
+
+returns : tie.Need-returns
+unfolding line
+returns c =
+    let over = c .before .before in
+    let under = over .before .before .before .before in
+    let mm = under .before .before .before .before in
+    let entry = mm .before .before .entry .ensures in
+    let first = mm .put-field .ensures in
+    let second = under .put-field2 .ensures in
+    let third = over .put-field3 .ensures in
+    let two = then (first .0) (omega arith) (rw (lower-of entry) at (second .0)) in
+    (then two (omega arith) (rw (upper-of entry) at (third .0)), omega arith)
+
+pub put-line-spec : {M : Type 1} → statement M
+put-line-spec =
+    tie.close
+    (tie.spec
+    entry-requires
+    add-put-field
+    put-field-requires
+    put-field-requires-2
+    put-field-requires-3
+    same-length
+    returns)

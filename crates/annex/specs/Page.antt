@@ -1,0 +1,23 @@
+-- The annex as it is printed: a header, then a line for each entry with the whole millimetre and the two figures, separated by one space.
+-- Assumes nothing.
+use Prim.Native.Nat.{ℕ, zero, suc, _+_}
+use mathlib.Core.List.{List, [], _∷_, _++_}
+use Rattle.quadrature.specs.Figures.{annexEntry}
+use Rattle.text.specs.Text.{decimal}
+
+-- "mm under over", and the end of the line
+abbrev pub header : List ℕ
+header = 109 ∷ 109 ∷ 32 ∷ 117 ∷ 110 ∷ 100 ∷ 101 ∷ 114 ∷ 32 ∷ 111 ∷ 118 ∷ 101 ∷ 114 ∷ 10 ∷ []
+
+-- a number and the byte after it
+abbrev pub field : ℕ → ℕ → List ℕ
+field n after = decimal n ++ (after ∷ [])
+
+-- entry k stands at 10 + k mm; a space is byte 32, the end of a line byte 10
+unfoldable pub line : ℕ → List ℕ
+line k = field (10 + k) 32 ++ field (annexEntry k .lower) 32 ++ field (annexEntry k .upper) 10
+
+-- the header and the first n lines
+unfoldable pub page : ℕ → List ℕ
+page zero = header
+page (suc n) = page n ++ line n

@@ -1,0 +1,55 @@
+// Prints the annex for the printer.
+ghost use mathlib.Core.Path.{_≡_};
+ghost use Prim.Native.Nat.{_+_, _*_, _≤_, _<_};
+ghost use lib.ListN.{length, take};
+ghost use Rattle.io.specs.Counts.{Counts};
+ghost use Rattle.text.specs.Text.{Written};
+ghost use Rattle.annex.specs.Page.{field, line, page};
+use libc::STDERR_FILENO;
+use libc::STDOUT_FILENO;
+use quadrature::annex;
+
+// Puts the digits of n and one byte after them from place at on, and answers where they end.
+fn put_field(out: &mut [u8], at: usize, n: u64, after: u8) -> usize
+    requires { ⌜ at + 21 ≤ length (now out) ⌝ }
+    ensures { λ r. ⌜ Written (now (out .entry)) at (field n after) (now (out .exit)) r ⌝ }
+    ensures { λ r. ⌜ r ≤ at + 21 ⌝ }
+{
+    let end = text::put_decimal(out, at, n);
+    text::put(out, end, &[after])
+}
+
+// Puts the line of entry k.
+fn put_line(out: &mut [u8], at: usize, k: usize) -> usize
+    requires { ⌜ (k < 1591) × (at + 63 ≤ length (now out)) ⌝ }
+    ensures { λ r. ⌜ Written (now (out .entry)) at (line k) (now (out .exit)) r ⌝ }
+    ensures { λ r. ⌜ r ≤ at + 63 ⌝ }
+{
+    let figures = annex::entry(k);
+    let lower = put_field(out, at, 10 + k as u64, b' ');
+    let upper = put_field(out, lower, figures.lower, b' ');
+    put_field(out, upper, figures.upper, b'\n')
+}
+
+// Puts the whole page at the start of out, and answers where it ends.
+fn put_page(out: &mut [u8]) -> usize
+    requires { ⌜ 14 + 63 * 1591 ≤ length (now out) ⌝ }
+    ensures { λ r. ⌜ Counts r (now (out .exit)) ⌝ }
+    ensures { λ r. ⌜ take r (now (out .exit)) ≡ page 1591 ⌝ }
+{
+    let mut end = text::put(out, 0, b"mm under over\n");
+    let mut k = 0;
+    while k < annex::ENTRIES {
+        end = put_line(out, end, k);
+        k += 1;
+    }
+    end
+}
+
+fn main() {
+    let mut out = [0u8; 131072];
+    let n = put_page(&mut out);
+    if !io::write_all(STDOUT_FILENO, &out[..n]) {
+        io::write_all(STDERR_FILENO, b"annex: cannot write\n");
+    }
+}

@@ -1,0 +1,25 @@
+-- Text as lists of bytes.
+-- Assumes nothing.
+use Prim.Native.Nat.{ℕ, zero, suc, _+_, _/_, _%_}
+use mathlib.Core.Path.{_≡_}
+use mathlib.Core.Bool.{true, false}
+use mathlib.Core.List.{List, [], _∷_, _++_}
+use lib.Dec.{ltb}
+use lib.ListN.{length, take, drop}
+
+-- b with the bytes of v from place at on
+unfoldable pub overlay : List ℕ → ℕ → List ℕ → List ℕ
+overlay b at v = take at b ++ v ++ drop (at + length v) b
+
+-- b became c: the bytes of v stand from place at on and end at place e, and the others are as they were
+pub record Written (b : List ℕ) (at : ℕ) (v c : List ℕ) (e : ℕ) : Type 0 where
+  pub end : e ≡ at + length v
+  pub bytes : c ≡ overlay b at v
+
+-- the decimal digits of n in ASCII, k + 1 at the most
+unfoldable pub decimalUpTo : ℕ → ℕ → List ℕ
+decimalUpTo zero n = (48 + n) ∷ []
+decimalUpTo (suc k) n = elim (ltb n 10) [ true ↦ (48 + n) ∷ [] | false ↦ decimalUpTo k (n / 10) ++ ((48 + n % 10) ∷ []) ]
+
+unfoldable pub decimal : ℕ → List ℕ
+decimal n = decimalUpTo n n

@@ -1,0 +1,23 @@
+// Text in lent bytes: pieces put one after the other.
+ghost use Prim.Native.Nat.{_+_, _≤_};
+ghost use lib.ListN.{length};
+ghost use Rattle.text.specs.Text.{Written, decimal};
+
+// Puts the bytes of piece from place at on, and answers where they end.
+pub fn put(out: &mut [u8], at: usize, piece: &[u8]) -> usize
+    requires { ⌜ at + length (now piece) ≤ length (now out) ⌝ }
+    ensures { λ r. ⌜ Written (now (out .entry)) at (now (piece .entry)) (now (out .exit)) r ⌝ }
+{
+    bytes::copy(piece, &mut out[at..]);
+    at + piece.len()
+}
+
+// Puts n in decimal digits, of which a u64 has 20 at the most.
+pub fn put_decimal(out: &mut [u8], at: usize, n: u64) -> usize
+    requires { ⌜ at + 20 ≤ length (now out) ⌝ }
+    ensures { λ r. ⌜ Written (now (out .entry)) at (decimal n) (now (out .exit)) r ⌝ }
+{
+    let mut digits = [0u8; 20];
+    let k = io::decimal(n, &mut digits);
+    put(out, at, &digits[..k])
+}
