@@ -1,3 +1,4 @@
+pub mod Rungs
 pub mod Sums
 pub mod Strips
 pub mod Enclosure
