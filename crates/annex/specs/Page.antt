@@ -2,7 +2,7 @@
 -- Assumes nothing.
 use Prim.Native.Nat.{ℕ, zero, suc, _+_}
 use mathlib.Core.List.{List, [], _∷_, _++_}
-use Rattle.quadrature.specs.Figures.{annexEntry}
+use Rattle.annex_tables.specs.Annex.{annexEntry}
 use Rattle.text.specs.Text.{decimal}
 
 -- "mm under over", and the end of the line

@@ -7,7 +7,6 @@ ghost use Rattle.text.specs.Text.{Written};
 ghost use Rattle.annex.specs.Page.{field, line, page};
 use libc::STDERR_FILENO;
 use libc::STDOUT_FILENO;
-use quadrature::annex;
 
 // Puts the digits of n and one byte after them from place at on, and answers where they end.
 fn put_field(out: &mut [u8], at: usize, n: u64, after: u8) -> usize
@@ -25,7 +24,7 @@ fn put_line(out: &mut [u8], at: usize, k: usize) -> usize
     ensures { λ r. ⌜ Written (now (out .entry)) at (line k) (now (out .exit)) r ⌝ }
     ensures { λ r. ⌜ r ≤ at + 63 ⌝ }
 {
-    let figures = annex::entry(k);
+    let figures = annex_tables::entry(k);
     let lower = put_field(out, at, 10 + k as u64, b' ');
     let upper = put_field(out, lower, figures.lower, b' ');
     put_field(out, upper, figures.upper, b'\n')
@@ -39,7 +38,7 @@ fn put_page(out: &mut [u8]) -> usize
 {
     let mut end = text::put(out, 0, b"mm under over\n");
     let mut k = 0;
-    while k < annex::ENTRIES {
+    while k < annex_tables::ENTRIES {
         end = put_line(out, end, k);
         k += 1;
     }

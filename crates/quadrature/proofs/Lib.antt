@@ -2,5 +2,3 @@ pub mod Rungs
 pub mod Sums
 pub mod Strips
 pub mod Enclosure
-pub mod Tables
-pub mod Logarithm

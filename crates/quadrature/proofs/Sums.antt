@@ -55,3 +55,8 @@ pub blocks : (f : ℕ → Fraction) (m a n : ℕ) → series f (m * a) (m * n) �
 unfolding summed
 blocks f m a zero = rw mul-zero
 blocks f m a (suc n) = rw (mul-suc, series-join, blocks f m a n, mul-add)
+
+-- 01, "Ladder and figures": "zero when E = D"
+pub no-steps : (f : ℕ → ℕ) (d : ℕ) → total f d (d - d) ≡ 0
+unfolding summed
+no-steps f d = rw sub-self

@@ -30,7 +30,3 @@ upperLog D E = total upperStep D (E - D)
 
 abbrev pub logBounds : ℕ → ℕ → Bounds
 logBounds D E = record { lower = lowerLog D E; upper = upperLog D E }
-
--- "The annex prints running sums from 10.0 mm at each whole millimetre to 1,600 mm": entry k stands at 10 + k mm
-abbrev pub annexEntry : ℕ → Bounds
-annexEntry k = logBounds 100 (100 + 10 * k)

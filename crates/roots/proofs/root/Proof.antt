@@ -9,20 +9,6 @@ use Rattle.roots.proofs.Parts.{First, Found, first, found, product-le}
 use Rattle.roots.proofs.root.Statement.{statement}
 use Rattle.roots.proofs.root.Tie as tie
 
--- what the first call of `addition` gives, and the second
-part-1 : (c : tie.After-addition) → First (c .before .args .k) (c .before .args .n) (c .before .args .d) (c .addition .result)
-part-1 c =
-    let a = c .before .args in
-    let pre = c .before .pre in
-    let got = c .addition .ensures in
-    first (a .k) (a .n) (a .d) (c .addition .result) (pre .0) (pre .1) (pre .3) (got .0) (got .1) (got .2)
-
-part-2 : (c : tie.After-addition2) → Found (c .before .before .args .k) (c .before .before .args .n) (c .before .before .args .d) (c .before .addition .result) (c .addition2 .result)
-part-2 c =
-    let a = c .before .before .args in
-    let got = c .addition2 .ensures in
-    found (a .k) (a .n) (a .d) (c .before .addition .result) (c .addition2 .result) (c .before .before .pre .3) (part-1 (c .before) .low) (got .0) (got .1)
-
 mul-square : tie.Need-mul-square
 mul-square c = omega (arith, product-le {x = c .args .k} {y = c .args .k} (2 ^ 12) (2 ^ 12) (omega arith) (omega arith))
 
@@ -40,6 +26,20 @@ mul-part c =
 
 addition-requires : tie.Need-addition-requires
 addition-requires c κs = omega (arith, div-le-self (c .args .n) (c .args .d))
+
+-- what the first call of `addition` gives, and the second
+part-1 : (c : tie.After-addition) → First (c .before .args .k) (c .before .args .n) (c .before .args .d) (c .addition .result)
+part-1 c =
+    let a = c .before .args in
+    let pre = c .before .pre in
+    let got = c .addition .ensures in
+    first (a .k) (a .n) (a .d) (c .addition .result) (pre .0) (pre .1) (pre .3) (got .0) (got .1) (got .2)
+
+part-2 : (c : tie.After-addition2) → Found (c .before .before .args .k) (c .before .before .args .n) (c .before .before .args .d) (c .before .addition .result) (c .addition2 .result)
+part-2 c =
+    let a = c .before .before .args in
+    let got = c .addition2 .ensures in
+    found (a .k) (a .n) (a .d) (c .before .addition .result) (c .addition2 .result) (c .before .before .pre .3) (part-1 (c .before) .low) (got .0) (got .1)
 
 mul-a : tie.Need-mul-a
 mul-a c = omega (arith, part-1 c)

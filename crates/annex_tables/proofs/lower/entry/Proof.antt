@@ -1,0 +1,70 @@
+-- `annex_tables::lower::entry` meets its contract. The loop's invariant: row i is held once it was passed. The measure is what is left of the rows.
+-- The table's rule is one test, which antt computes over the table as the function has it in its local.
+-- Assumes nothing.
+use mathlib.Core.Path.{_≡_, subst, sym}
+use mathlib.Core.Logic.{⊎-elim}
+use mathlib.Core.List.{List, flatten}
+use Prim.Native.Nat.{ℕ, _+_, _-_, _≤_}
+use native.Mathlib.Omega.{arith}
+use borrow.Author.Needs.{needs}
+use Rattle.quadrature.specs.Sums.{summed}
+use Rattle.quadrature.specs.Figures.{lowerStep}
+use Rattle.annex_tables.proofs.Rule.{Passed, passed-first, passed-this, passed-other, entry-of}
+use Rattle.annex_tables.proofs.lower.entry.Statement.{statement}
+use Rattle.annex_tables.proofs.lower.entry.Tie as tie
+
+abbrev Inv-loop : tie.InvT-loop
+Inv-loop k table i row₀ n₀ row n = (n ≤ 37) × Passed lowerStep table i n row
+
+abbrev μ-loop : tie.MeasureT-loop
+μ-loop k table i row₀ n₀ row n = 37 - n
+
+array-copy-out-row : tie.Need-array-copy-out-row Inv-loop μ-loop
+array-copy-out-row c = search needs
+
+loop-holds : tie.Need-loop-holds Inv-loop μ-loop
+unfolding summed lowerStep flatten
+loop-holds c = (search needs, passed-first tt)
+
+mul-row : tie.Need-mul-row Inv-loop μ-loop
+mul-row c = search needs
+
+array-copy-out-row-2 : tie.Need-array-copy-out-row-2 Inv-loop μ-loop
+array-copy-out-row-2 c = search needs
+
+add-n : tie.Need-add-n Inv-loop μ-loop
+add-n c = search needs
+
+loop-less : tie.Need-loop-less Inv-loop μ-loop
+loop-less c = search needs
+
+loop-again : tie.Need-loop-again Inv-loop μ-loop
+loop-again c =
+    let passed = c .before .before .loop .inv .1 in
+    (search needs, ⊎-elim (λ w. rw (w .2) (passed-this passed (w .0 .taken))) (λ w. rw (w .1) (passed-other passed (w .0 .left))) (c .if1 .came))
+
+mul-result : tie.Need-mul-result Inv-loop μ-loop
+mul-result c = search needs
+
+array-read-result : tie.Need-array-read-result Inv-loop μ-loop
+array-read-result c = search needs
+
+returns : tie.Need-returns Inv-loop μ-loop
+returns c = entry-of (c .before .loop .inv .1) (omega arith) (c .before .before .before .pre)
+
+pub entry-spec : {M : Type 1} → statement M
+entry-spec =
+    tie.close
+    (tie.spec
+    Inv-loop
+    μ-loop
+    array-copy-out-row
+    loop-holds
+    mul-row
+    array-copy-out-row-2
+    add-n
+    loop-less
+    loop-again
+    mul-result
+    array-read-result
+    returns)
