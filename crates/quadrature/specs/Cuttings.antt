@@ -11,9 +11,13 @@ midpoint j = 2 over (2 * j + 1)
 abbrev pub trapezoid : ℕ → Fraction
 trapezoid j = (2 * j + 1) over (2 * j * (j + 1))
 
--- the under-sum and the over-sum from D to E
-unfoldable pub lowerSum : ℕ → ℕ → ℕ → Fraction
-lowerSum m D E = series midpoint (m * D) (m * E - m * D)
+-- the strips of the cutting m from D to E, added up
+unfoldable pub cutSum : (ℕ → Fraction) → ℕ → ℕ → ℕ → Fraction
+cutSum strip m D E = series strip (m * D) (m * E - m * D)
 
-unfoldable pub upperSum : ℕ → ℕ → ℕ → Fraction
-upperSum m D E = series trapezoid (m * D) (m * E - m * D)
+-- the under-sum and the over-sum
+abbrev pub lowerSum : ℕ → ℕ → ℕ → Fraction
+lowerSum = cutSum midpoint
+
+abbrev pub upperSum : ℕ → ℕ → ℕ → Fraction
+upperSum = cutSum trapezoid
