@@ -5,11 +5,11 @@ use Prim.Native.Nat.{ℕ, _+_, _≤_, _<_}
 use native.Mathlib.Omega.{arith}
 use Rattle.quadrature.specs.Ladder.{grade, top, rungs, thicknessAt}
 
-pub record Climbs : Type 0 where
+pub record LadderRungs : Type 0 where
   pub first : thicknessAt 0 ≡ 0
   pub next : (r : ℕ) → r + 1 < rungs → thicknessAt (r + 1) ≡ thicknessAt r + 10
   pub last : (r : ℕ) → rungs ≤ r + 1 → thicknessAt r ≡ 300
   pub count : rungs ≡ 31
 
-pub climbs : Climbs
-climbs = record { first = refl; next = λ r lt. omega arith; last = λ r le. omega arith; count = refl }
+pub ladder-rungs : LadderRungs
+ladder-rungs = record { first = refl; next = λ r lt. omega arith; last = λ r le. omega arith; count = refl }

@@ -6,7 +6,7 @@ ghost use Rattle.roots.specs.Root.{rootBounds};
 use fractions::Bounds;
 
 // The largest v with (a + v)² at most a² + gap, found by bisection; top is too large for it.
-fn addition(a: u64, gap: u64, top: u64) -> u64
+fn increment(a: u64, gap: u64, top: u64) -> u64
     requires { ⌜ (gap < top * (2 * a + top)) × (top * (2 * a + top) ≤ 2 ^ 64) × (a < 2 ^ 62) × (top < 2 ^ 62) ⌝ }
     ensures { λ v. ⌜ (v * (2 * a + v) ≤ gap) × (gap < (v + 1) * (2 * a + (v + 1))) × (v < top) ⌝ }
 {
@@ -32,10 +32,10 @@ pub fn root(k: u64, n: u64, d: u64) -> Bounds
     let square = k * k;
     let whole = n / d;
     let part = square * (n % d);
-    let u = addition(0, whole, 0x1_0000_0000);
+    let u = increment(0, whole, 0x1_0000_0000);
     let a = k * u;
     let gap = square * (whole - u * u) + part / d;
-    let v = addition(a, gap, k);
+    let v = increment(a, gap, k);
     let lower = a + v;
     let left = gap - v * (2 * a + v) + part % d;
     if left == 0 {

@@ -24,22 +24,22 @@ mul-part c =
     let rest = mod-lt (a .n) (c .pre .3) in
     omega (arith, product-le {x = a .k * a .k} {y = a .n % a .d} (2 ^ 12 * 2 ^ 12) (2 ^ 30) (product-le (2 ^ 12) (2 ^ 12) (omega arith) (omega arith)) (omega arith))
 
-addition-requires : tie.Need-addition-requires
-addition-requires c κs = omega (arith, div-le-self (c .args .n) (c .args .d))
+increment-requires : tie.Need-increment-requires
+increment-requires c κs = omega (arith, div-le-self (c .args .n) (c .args .d))
 
--- what the first call of `addition` gives, and the second
-part-1 : (c : tie.After-addition) → First (c .before .args .k) (c .before .args .n) (c .before .args .d) (c .addition .result)
+-- what the first call of `increment` gives, and the second
+part-1 : (c : tie.After-increment) → First (c .before .args .k) (c .before .args .n) (c .before .args .d) (c .increment .result)
 part-1 c =
     let a = c .before .args in
     let pre = c .before .pre in
-    let got = c .addition .ensures in
-    first (a .k) (a .n) (a .d) (c .addition .result) (pre .0) (pre .1) (pre .3) (got .0) (got .1) (got .2)
+    let got = c .increment .ensures in
+    first (a .k) (a .n) (a .d) (c .increment .result) (pre .0) (pre .1) (pre .3) (got .0) (got .1) (got .2)
 
-part-2 : (c : tie.After-addition2) → Found (c .before .before .args .k) (c .before .before .args .n) (c .before .before .args .d) (c .before .addition .result) (c .addition2 .result)
+part-2 : (c : tie.After-increment2) → Found (c .before .before .args .k) (c .before .before .args .n) (c .before .before .args .d) (c .before .increment .result) (c .increment2 .result)
 part-2 c =
     let a = c .before .before .args in
-    let got = c .addition2 .ensures in
-    found (a .k) (a .n) (a .d) (c .before .addition .result) (c .addition2 .result) (c .before .before .pre .3) (part-1 (c .before) .low) (got .0) (got .1)
+    let got = c .increment2 .ensures in
+    found (a .k) (a .n) (a .d) (c .before .increment .result) (c .increment2 .result) (c .before .before .pre .3) (part-1 (c .before) .low) (got .0) (got .1)
 
 mul-a : tie.Need-mul-a
 mul-a c = omega (arith, part-1 c)
@@ -59,8 +59,8 @@ div-gap c = search needs
 add-gap : tie.Need-add-gap
 add-gap c = omega (arith, part-1 c)
 
-addition-requires-2 : tie.Need-addition-requires-2
-addition-requires-2 c κs = omega (arith, part-1 c)
+increment-requires-2 : tie.Need-increment-requires-2
+increment-requires-2 c κs = omega (arith, part-1 c)
 
 add-lower : tie.Need-add-lower
 add-lower c = omega (arith, part-1 (c .before))
@@ -102,14 +102,14 @@ root-spec =
     div-whole
     rem-part
     mul-part
-    addition-requires
+    increment-requires
     mul-a
     mul-gap
     sub-gap
     mul-gap-2
     div-gap
     add-gap
-    addition-requires-2
+    increment-requires-2
     add-lower
     mul-left
     add-left

@@ -1,12 +1,12 @@
--- `roots::addition` meets its contract. The loop's invariant: v adds at most the gap to the square, and end adds more. The measure is their distance.
+-- `roots::increment` meets its contract. The loop's invariant: v adds at most the gap to the square, and end adds more. The measure is their distance.
 -- Assumes nothing.
 use mathlib.Core.Path.{_≡_, subst}
 use Prim.Native.Nat.{ℕ, _+_, _-_, _*_, _/_, _≤_, _<_}
 use native.Mathlib.Omega.{arith}
 use borrow.Author.Needs.{needs}
 use Rattle.roots.proofs.Squares.{factor-pos, gain-lt}
-use Rattle.roots.proofs.addition.Statement.{statement}
-use Rattle.roots.proofs.addition.Tie as tie
+use Rattle.roots.proofs.increment.Statement.{statement}
+use Rattle.roots.proofs.increment.Tie as tie
 
 abbrev Inv-loop : tie.InvT-loop
 Inv-loop a gap top v₀ end₀ v end = (v < end) × (end ≤ top) × (v * (2 * a + v) ≤ gap) × (gap < end * (2 * a + end))
@@ -57,8 +57,8 @@ returns c =
     let last : loop .end ≡ loop .v + 1 = omega arith in
     (loop .inv .2, subst (λ (x : ℕ). c .before .before .args .gap < x * (2 * a + x)) last (loop .inv .3), search needs)
 
-pub addition-spec : {M : Type 1} → statement M
-addition-spec =
+pub increment-spec : {M : Type 1} → statement M
+increment-spec =
     tie.close
     (tie.spec
     Inv-loop
