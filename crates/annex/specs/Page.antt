@@ -2,7 +2,7 @@
 -- Assumes nothing.
 use Prim.Native.Nat.{ℕ, zero, suc, _+_}
 use mathlib.Core.List.{List, [], _∷_, _++_}
-use Rattle.annex_tables.specs.Annex.{annexEntry}
+use Rattle.annex_tables.specs.Annex.{entries, annexEntry}
 use Rattle.text.specs.Text.{decimal}
 
 -- "mm under over", and the end of the line
@@ -17,7 +17,10 @@ field n after = decimal n ++ (after ∷ [])
 unfoldable pub line : ℕ → List ℕ
 line k = field (10 + k) 32 ++ field (annexEntry k .lower) 32 ++ field (annexEntry k .upper) 10
 
--- the header and the first n lines
-unfoldable pub page : ℕ → List ℕ
-page zero = header
-page (suc n) = page n ++ line n
+-- the first n lines
+unfoldable pub lines : ℕ → List ℕ
+lines zero = []
+lines (suc n) = lines n ++ line n
+
+abbrev pub page : List ℕ
+page = header ++ lines entries

@@ -1,7 +1,7 @@
 // Prints the annex for the printer.
-ghost use mathlib.Core.Path.{_≡_};
 ghost use Prim.Native.Nat.{_+_, _*_, _≤_, _<_};
-ghost use lib.ListN.{length, take};
+ghost use lib.ListN.{length};
+ghost use Rattle.annex_tables.specs.Annex.{entries};
 ghost use Rattle.io.specs.Counts.{Counts};
 ghost use Rattle.text.specs.Text.{Written};
 ghost use Rattle.annex.specs.Page.{field, line, page};
@@ -20,7 +20,7 @@ fn put_field(out: &mut [u8], at: usize, n: u64, after: u8) -> usize
 
 // Puts the line of entry k.
 fn put_line(out: &mut [u8], at: usize, k: usize) -> usize
-    requires { ⌜ (k < 1591) × (at + 63 ≤ length (now out)) ⌝ }
+    requires { ⌜ (k < entries) × (at + 63 ≤ length (now out)) ⌝ }
     ensures { λ r. ⌜ Written (now (out .entry)) at (line k) (now (out .exit)) r ⌝ }
     ensures { λ r. ⌜ r ≤ at + 63 ⌝ }
 {
@@ -32,9 +32,9 @@ fn put_line(out: &mut [u8], at: usize, k: usize) -> usize
 
 // Puts the whole page at the start of out, and answers where it ends.
 fn put_page(out: &mut [u8]) -> usize
-    requires { ⌜ 14 + 63 * 1591 ≤ length (now out) ⌝ }
+    requires { ⌜ 14 + 63 * entries ≤ length (now out) ⌝ }
+    ensures { λ r. ⌜ Written (now (out .entry)) 0 page (now (out .exit)) r ⌝ }
     ensures { λ r. ⌜ Counts r (now (out .exit)) ⌝ }
-    ensures { λ r. ⌜ take r (now (out .exit)) ≡ page 1591 ⌝ }
 {
     let mut end = text::put(out, 0, b"mm under over\n");
     let mut k = 0;

@@ -11,6 +11,7 @@ use lib.Dec.{T, eqb, eqb→eq}
 use lib.ListN.{length, getD, length-append, List·getD-append}
 use lib.Seq.{getD-append-add}
 use Rattle.quadrature.specs.Sums.{summed, total}
+use Rattle.annex_tables.specs.Annex.{entries}
 use Rattle.quadrature.proofs.Sums.{total-join}
 
 both : (a b : Bool) → T (a && b) → T a × T b
@@ -23,13 +24,13 @@ even c [] = true
 even c (r ∷ rs) = eqb (length r) c && even c rs
 
 -- each entry is the one before it, p at first, plus the ten steps from d on
-abbrev grows : (ℕ → ℕ) → ℕ → ℕ → List ℕ → Bool
-grows f d p [] = true
-grows f d p (x ∷ xs) = eqb x (p + total f d 10) && grows f (d + 10) x xs
+abbrev stepwise : (ℕ → ℕ) → ℕ → ℕ → List ℕ → Bool
+stepwise f d p [] = true
+stepwise f d p (x ∷ xs) = eqb x (p + total f d 10) && stepwise f (d + 10) x xs
 
 abbrev running : (ℕ → ℕ) → List ℕ → Bool
 running f [] = false
-running f (x ∷ xs) = eqb x 0 && grows f 100 0 xs
+running f (x ∷ xs) = eqb x 0 && stepwise f 100 0 xs
 
 -- the rule of a table: 37 rows of 43 entries, 1,591 in all, which are running sums
 abbrev pub rule : (ℕ → ℕ) → List (List ℕ) → Bool
@@ -58,11 +59,11 @@ row-at c (r ∷ rs) e (suc i) j hi hj =
     let place : c * suc i + j ≡ length r + (c * i + j) = omega (arith, mul-suc c i, size c r rs e) in
     rw (place, getD-append-add r (flatten rs) (c * i + j) 0) (row-at c rs (others c r rs e) i j (le-of-suc-le-suc hi) hj)
 
-grown : (f : ℕ → ℕ) (xs : List ℕ) (d p : ℕ) → T (grows f d p xs) → (k : ℕ) → k < length xs → getD xs k 0 ≡ p + total f d (10 * suc k)
+grown : (f : ℕ → ℕ) (xs : List ℕ) (d p : ℕ) → T (stepwise f d p xs) → (k : ℕ) → k < length xs → getD xs k 0 ≡ p + total f d (10 * suc k)
 grown f [] d p t k h = absurd (not-suc-le-zero h)
-grown f (x ∷ xs) d p t zero h = eqb→eq x (p + total f d 10) (both (eqb x (p + total f d 10)) (grows f (d + 10) x xs) t .0)
+grown f (x ∷ xs) d p t zero h = eqb→eq x (p + total f d 10) (both (eqb x (p + total f d 10)) (stepwise f (d + 10) x xs) t .0)
 grown f (x ∷ xs) d p t (suc k) h =
-    let test = both (eqb x (p + total f d 10)) (grows f (d + 10) x xs) t in
+    let test = both (eqb x (p + total f d 10)) (stepwise f (d + 10) x xs) t in
     let first : x ≡ p + total f d 10 = eqb→eq x (p + total f d 10) (test .0) in
     let count : 10 * suc (suc k) ≡ 10 + 10 * suc k = omega arith in
     grown f xs (d + 10) x (test .1) k (le-of-suc-le-suc h) ∙ rw (first, count, total-join f d 10 (10 * suc k), add-assoc p)
@@ -71,9 +72,18 @@ grown f (x ∷ xs) d p t (suc k) h =
 run : (f : ℕ → ℕ) (xs : List ℕ) → T (running f xs) → (k : ℕ) → k < length xs → getD xs k 0 ≡ total f 100 (100 + 10 * k - 100)
 unfolding summed
 run f [] t k h = absurd t
-run f (x ∷ xs) t zero h = eqb→eq x 0 (both (eqb x 0) (grows f 100 0 xs) t .0)
+run f (x ∷ xs) t zero h = eqb→eq x 0 (both (eqb x 0) (stepwise f 100 0 xs) t .0)
 run f (x ∷ xs) t (suc k) h =
-    grown f xs 100 0 (both (eqb x 0) (grows f 100 0 xs) t .1) k (le-of-suc-le-suc h) ∙ rw (zero-add (total f 100 (10 * suc k)), add-sub-cancel-left 100 (10 * suc k))
+    grown f xs 100 0 (both (eqb x 0) (stepwise f 100 0 xs) t .1) k (le-of-suc-le-suc h) ∙ rw (zero-add (total f 100 (10 * suc k)), add-sub-cancel-left 100 (10 * suc k))
+
+-- so at each place of a table of the rule stands the sum of the steps from 10.0 mm on
+pub ruled-entry : (f : ℕ → ℕ) (t : List (List ℕ)) → T (rule f t) → (k : ℕ) → k < entries → getD (getD t (k / 43) []) (k % 43) 0 ≡ total f 100 (100 + 10 * k - 100)
+ruled-entry f t r k lt =
+    let sized = both (eqb (length t) 37) (even 43 t && running f (flatten t)) r in
+    let test = both (even 43 t) (running f (flatten t)) (sized .1) in
+    let rows : length t ≡ 37 = eqb→eq (length t) 37 (sized .0) in
+    row-at 43 t (test .0) (k / 43) (k % 43) (omega arith) (omega arith)
+    ∙ rw (div-add-mod k 43) (run f (flatten t) (test .1) k (omega (arith, flat-length 43 t (test .0))))
 
 -- What the loop over the rows keeps, n rows passed: the table is one of the rule, and row i is held once it was passed.
 pub record Passed (f : ℕ → ℕ) (t : List (List ℕ)) (i n : ℕ) (row : List ℕ) : Type 0 where
@@ -90,12 +100,6 @@ module _ {f : ℕ → ℕ} {t : List (List ℕ)} {i : ℕ} where
   pub passed-other : {n : ℕ} {row : List ℕ} → Passed f t i n row → ¬ (n ≡ i) → Passed f t i (n + 1) row
   passed-other p other = record { ruled = p .ruled; held = λ lt. p .held (omega arith) }
 
--- with all rows passed, the row's place k % 43 is entry k
-pub entry-of : {f : ℕ → ℕ} {t : List (List ℕ)} {n k : ℕ} {row : List ℕ} → Passed f t (k / 43) n row → n ≡ 37 → k < 1591 → getD row (k % 43) 0 ≡ total f 100 (100 + 10 * k - 100)
-entry-of {f} {t} {n} {k} p all lt =
-    let sized = both (eqb (length t) 37) (even 43 t && running f (flatten t)) (p .ruled) in
-    let test = both (even 43 t) (running f (flatten t)) (sized .1) in
-    let rows : length t ≡ 37 = eqb→eq (length t) 37 (sized .0) in
-    ap (λ (r : List ℕ). getD r (k % 43) 0) (p .held (omega arith))
-    ∙ row-at 43 t (test .0) (k / 43) (k % 43) (omega arith) (omega arith)
-    ∙ rw (div-add-mod k 43) (run f (flatten t) (test .1) k (omega (arith, flat-length 43 t (test .0))))
+-- with all rows passed, place k % 43 of the row held is entry k
+pub held-entry : {f : ℕ → ℕ} {t : List (List ℕ)} {n k : ℕ} {row : List ℕ} → Passed f t (k / 43) n row → n ≡ 37 → k < entries → getD row (k % 43) 0 ≡ total f 100 (100 + 10 * k - 100)
+held-entry {f} {t} {n} {k} p all lt = ap (λ (r : List ℕ). getD r (k % 43) 0) (p .held (omega arith)) ∙ ruled-entry f t (p .ruled) k lt

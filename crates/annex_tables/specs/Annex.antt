@@ -5,6 +5,9 @@ use Prim.Native.Nat.{ℕ, _+_, _*_}
 use Rattle.fractions.specs.declared.Bounds.{Bounds}
 use Rattle.quadrature.specs.Figures.{logBounds}
 
+abbrev pub entries : ℕ
+entries = 1591
+
 -- entry k stands at 10 + k mm
 abbrev pub annexEntry : ℕ → Bounds
 annexEntry k = logBounds 100 (100 + 10 * k)

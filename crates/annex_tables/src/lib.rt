@@ -4,7 +4,7 @@ mod upper;
 
 ghost use mathlib.Core.Path.{_≡_};
 ghost use Prim.Native.Nat.{_<_};
-ghost use Rattle.annex_tables.specs.Annex.{annexEntry};
+ghost use Rattle.annex_tables.specs.Annex.{entries, annexEntry};
 use fractions::Bounds;
 
 // How many entries there are.
@@ -12,7 +12,7 @@ pub const ENTRIES: usize = 1591;
 
 // Entry k, which stands at 10 + k mm.
 pub fn entry(k: usize) -> Bounds
-    requires { ⌜ k < 1591 ⌝ }
+    requires { ⌜ k < entries ⌝ }
     ensures { λ r. ⌜ r ≡ annexEntry k ⌝ }
 {
     Bounds {

@@ -4,13 +4,13 @@ ghost use Prim.Native.Nat.{_<_};
 ghost use Rattle.fractions.specs.Fraction.{_over_};
 ghost use Rattle.fractions.specs.Rounding.{rounded};
 
-// A number between two whole numbers: lower is not above it, upper is not below it.
+// Two whole numbers that enclose a number: lower is not above it, upper is not below it.
 pub struct Bounds {
     pub lower: u64,
     pub upper: u64,
 }
 
-// The whole numbers next to num / den, by one division.
+// num / den rounded down and rounded up, by one division.
 pub fn quotient(num: u64, den: u64) -> Bounds
     requires { ⌜ 0 < den ⌝ }
     ensures { λ r. ⌜ r ≡ rounded (num over den) ⌝ }

@@ -21,8 +21,12 @@ split f {c} {d} {e} le le′ =
     rw (count, total-join f c (d - c) (e - d), add-sub-of-le le)
 
 -- the sums a to d and b to e leave the sum from d to e
-pub beyond : (f : ℕ → ℕ) {c d e a b : ℕ} → c ≤ d → d ≤ e → a ≡ total f c (d - c) → b ≡ total f c (e - c) → (a ≤ b) × (b - a ≡ total f d (e - d))
-beyond f le le′ inner outer = omega (arith, split f le le′)
+pub record Difference (f : ℕ → ℕ) (d e a b : ℕ) : Type 0 where
+  pub ordered : a ≤ b
+  pub rest : b - a ≡ total f d (e - d)
+
+pub difference : (f : ℕ → ℕ) {c d e a b : ℕ} → c ≤ d → d ≤ e → a ≡ total f c (d - c) → b ≡ total f c (e - c) → Difference f d e a b
+difference f le le′ inner outer = omega (arith, split f le le′)
 
 -- No step is above 2 × 10¹².
 abbrev pub Small : (ℕ → ℕ) → Type 0
@@ -51,7 +55,7 @@ log-small : (f : ℕ → ℕ) → Small f → (d : ℕ) {e : ℕ} → e ≤ 1600
 log-small f s d {e} le = le-trans (small-total f s d (e - d)) (mul-le-mul-right {m = e - d} {n = 16000} (2 * tera) (omega arith))
 
 -- the sum s to i and the step x from i are the sum to i + 1, which fits
-pub extended : (f : ℕ → ℕ) → Small f → {d i s x : ℕ} → d ≤ i → i < 16000 → s ≡ total f d (i - d) → x ≡ f i → (s + x ≤ 16000 * (2 * tera)) × (s + x ≡ total f d (i + 1 - d))
-extended f small {d} {i} {s} {x} le lt sum step =
+pub log-next : (f : ℕ → ℕ) → Small f → {d i s x : ℕ} → d ≤ i → i < 16000 → s ≡ total f d (i - d) → x ≡ f i → (s + x ≤ 16000 * (2 * tera)) × (s + x ≡ total f d (i + 1 - d))
+log-next f small {d} {i} {s} {x} le lt sum step =
     let more = one-more f le in
     omega (arith, log-small f small d {e = i + 1} (omega arith))

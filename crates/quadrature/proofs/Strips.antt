@@ -6,7 +6,7 @@ use native.Mathlib.Nat.{le-of-lt, mul-pos, mul-le-mul-left}
 use native.Mathlib.Omega.{arith}
 use Rattle.fractions.specs.Fraction.{_over_, _≼_}
 use Rattle.fractions.proofs.Order.{≼-trans}
-use Rattle.quadrature.specs.Sums.{summed, total, series}
+use Rattle.quadrature.specs.Sums.{summed, total, fractionSum}
 use Rattle.quadrature.specs.Cuttings.{midpoint, trapezoid}
 use Rattle.quadrature.proofs.Sums.{gather-below, gather-above}
 
@@ -48,18 +48,18 @@ module _ (a m : ℕ) where
       let j = a + k in
       omega (arith, mul-le-mul-left ((j + 1) * k) (le-of-lt lt), mul-le-mul-left (j * suc k) lt, ap (λ t. t * (2 * j * (j + 1))) (line-at k lt))
 
-  midpoints : 2 * (m * c) over (c * c) ≼ series midpoint a m
+  midpoints : 2 * (m * c) over (c * c) ≼ fractionSum midpoint a m
   midpoints = rw line-total at (gather-below (c * c) line midpoint a m tangent)
 
-  trapezoids : series trapezoid a m ≼ 2 * (m * c) over (4 * a * (a + m))
+  trapezoids : fractionSum trapezoid a m ≼ 2 * (m * c) over (4 * a * (a + m))
   trapezoids = rw line-total at (gather-above (4 * a * (a + m)) trapezoid line a m chord)
 
-pub midpoint-cut : (m j : ℕ) → 1 ≤ m → midpoint j ≼ series midpoint (m * j) m
+pub midpoint-cut : (m j : ℕ) → 1 ≤ m → midpoint j ≼ fractionSum midpoint (m * j) m
 midpoint-cut m j pos =
     let c = 2 * (m * j) + m in
     ≼-trans _ (2 * (m * c) over (c * c)) _ (mul-pos (omega arith) (omega arith)) (omega arith) (midpoints (m * j) m)
 
-pub trapezoid-cut : (m j : ℕ) → 1 ≤ m → 1 ≤ j → series trapezoid (m * j) m ≼ trapezoid j
+pub trapezoid-cut : (m j : ℕ) → 1 ≤ m → 1 ≤ j → fractionSum trapezoid (m * j) m ≼ trapezoid j
 trapezoid-cut m j hm hj =
     let a = m * j in
     let a-pos = mul-pos hm hj in

@@ -3,7 +3,7 @@
 -- Assumes nothing.
 use Prim.Native.Nat.{ℕ, _+_, _-_, _*_}
 use Rattle.fractions.specs.Fraction.{Fraction, _over_}
-use Rattle.quadrature.specs.Sums.{series}
+use Rattle.quadrature.specs.Sums.{fractionSum}
 
 abbrev pub midpoint : ℕ → Fraction
 midpoint j = 2 over (2 * j + 1)
@@ -13,7 +13,7 @@ trapezoid j = (2 * j + 1) over (2 * j * (j + 1))
 
 -- the strips of the cutting m from D to E, added up
 unfoldable pub cutSum : (ℕ → Fraction) → ℕ → ℕ → ℕ → Fraction
-cutSum strip m D E = series strip (m * D) (m * E - m * D)
+cutSum strip m D E = fractionSum strip (m * D) (m * E - m * D)
 
 -- the under-sum and the over-sum
 abbrev pub lowerSum : ℕ → ℕ → ℕ → Fraction

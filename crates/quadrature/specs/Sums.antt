@@ -10,5 +10,5 @@ summed none add f a (suc n) = add (summed none add f a n) (f (a + n))
 abbrev pub total : (ℕ → ℕ) → ℕ → ℕ → ℕ
 total = summed 0 _+_
 
-abbrev pub series : (ℕ → Fraction) → ℕ → ℕ → Fraction
-series = summed (0 over 1) plus
+abbrev pub fractionSum : (ℕ → Fraction) → ℕ → ℕ → Fraction
+fractionSum = summed (0 over 1) plus

@@ -1,6 +1,6 @@
 // The thicknesses that insulation comes in.
 ghost use mathlib.Core.Path.{_≡_};
-ghost use Rattle.quadrature.specs.Ladder.{thicknessAt};
+ghost use Rattle.quadrature.specs.Ladder.{rungs, thicknessAt};
 use crate::Thickness;
 
 pub struct Ladder;
@@ -13,6 +13,12 @@ impl Ladder {
 
     // How many rungs there are: bare pipe is the first.
     pub const RUNGS: u64 = Self::TOP / Self::GRADE + 1;
+
+    pub fn count() -> u64
+        ensures { λ n. ⌜ n ≡ rungs ⌝ }
+    {
+        Self::RUNGS
+    }
 
     // The thickness of the rung with index r; an index above the last rung's means the last rung.
     pub fn thickness(r: u64) -> Thickness

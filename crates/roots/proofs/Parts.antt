@@ -43,13 +43,13 @@ gap k n d u = k * k * (n / d - u * u) + k * k * (n % d) / d
 abbrev pub left : ℕ → ℕ → ℕ → ℕ → ℕ → ℕ
 left k n d u v = gap k n d u - v * (2 * (k * u) + v) + k * k * (n % d) % d
 
-pub record Found (k n d u v : ℕ) : Type 0 where
+pub record BothParts (k n d u v : ℕ) : Type 0 where
   pub lower : k * u + v ≡ floorRoot (k * k * n over d)
   pub exact : left k n d u v ≡ 0 → k * u + v ≡ ceilingRoot (k * k * n over d)
   pub next : 0 < left k n d u v → k * u + v + 1 ≡ ceilingRoot (k * k * n over d)
 
-pub found : (k n d u v : ℕ) → 0 < d → u * u ≤ n / d → v * (2 * (k * u) + v) ≤ gap k n d u → gap k n d u < (v + 1) * (2 * (k * u) + (v + 1)) → Found k n d u v
-found k n d u v pos low fits over-v =
+pub both-parts : (k n d u v : ℕ) → 0 < d → u * u ≤ n / d → v * (2 * (k * u) + v) ≤ gap k n d u → gap k n d u < (v + 1) * (2 * (k * u) + (v + 1)) → BothParts k n d u v
+both-parts k n d u v pos low fits over-v =
     let s : ℕ = gap k n d u - v * (2 * (k * u) + v) in
     let t : ℕ = k * k * (n % d) % d in
     let e : k * k * n ≡ ((k * u + v) * (k * u + v) + s) * d + t =
@@ -63,7 +63,7 @@ found k n d u v pos low fits over-v =
     }
 
 -- What is known of the first part, with the sizes that keep every step within 64 bits.
-pub record First (k n d u : ℕ) : Type 0 where
+pub record FirstPart (k n d u : ℕ) : Type 0 where
   pub low : u * u ≤ n / d
   pub lacks : n / d - u * u ≤ 2 * u
   pub root : k * u ≤ 2 ^ 12 * 2 ^ 32
@@ -75,8 +75,8 @@ pub record First (k n d u : ℕ) : Type 0 where
 pub product-le : {x y : ℕ} (a b : ℕ) → x ≤ a → y ≤ b → x * y ≤ a * b
 product-le a b h h′ = mul-le-mul h h′
 
-pub first : (k n d u : ℕ) → 0 < k → k < 4096 → 0 < d → u * (2 * 0 + u) ≤ n / d → n / d < (u + 1) * (2 * 0 + (u + 1)) → u < 2 ^ 32 → First k n d u
-first k n d u some small pos low next u-small =
+pub first-part : (k n d u : ℕ) → 0 < k → k < 4096 → 0 < d → u * (2 * 0 + u) ≤ n / d → n / d < (u + 1) * (2 * 0 + (u + 1)) → u < 2 ^ 32 → FirstPart k n d u
+first-part k n d u some small pos low next u-small =
     let most : n / d - u * u ≤ 2 * u = omega arith in
     let times : k * u ≤ 2 ^ 12 * 2 ^ 32 = product-le (2 ^ 12) (2 ^ 32) (omega arith) (omega arith) in
     let part : k * k * (n % d) / d < k * k = div-lt-iff-lt-mul pos .1 (mul-lt-mul-of-pos-left (mod-lt n pos) (mul-pos some some)) in

@@ -38,24 +38,26 @@ least-passes p (suc n) t = go (p 0) refl (least-passes (λ m. p (suc m)) n t)
     go false e later = (later .0, λ x. elim x as (λ x. x < suc rest → p x ≡ false) [ zero ↦ λ lt. e | suc y ↦ λ lt. later .1 y (le-of-suc-le-suc lt) ])
 
 module _ (p : Fraction) (pos : 0 < p .den) where
-  pub floor-root-below : floorRoot p * floorRoot p * p .den ≤ p .num
+  floor-tests : (leb (floorRoot p * floorRoot p * p .den) (p .num) ≡ true) × ((x : ℕ) → floorRoot p < x → x ≤ p .num → leb (x * x * p .den) (p .num) ≡ false)
   unfolding floorRoot
-  floor-root-below = leb-true _ _ (largest-passes (λ r. leb (r * r * p .den) (p .num)) (p .num) (le-leb (0 * 0 * p .den) (p .num) (omega arith)) .0)
+  floor-tests = largest-passes (λ r. leb (r * r * p .den) (p .num)) (p .num) (le-leb (0 * 0 * p .den) (p .num) (omega arith))
+
+  ceiling-tests : (leb (p .num) (ceilingRoot p * ceilingRoot p * p .den) ≡ true) × ((x : ℕ) → x < ceilingRoot p → leb (p .num) (x * x * p .den) ≡ false)
+  unfolding ceilingRoot
+  ceiling-tests = least-passes (λ r. leb (p .num) (r * r * p .den)) (p .num) (le-leb (p .num) (p .num * p .num * p .den) (self-le (p .num) pos))
+
+  pub floor-root-below : floorRoot p * floorRoot p * p .den ≤ p .num
+  floor-root-below = leb-true _ _ (floor-tests .0)
 
   pub below-next-root : p .num < (floorRoot p + 1) * (floorRoot p + 1) * p .den
-  unfolding floorRoot
   below-next-root =
-      let r = floorRoot p in
-      let above = largest-passes (λ r. leb (r * r * p .den) (p .num)) (p .num) (le-leb (0 * 0 * p .den) (p .num) (omega arith)) .1 (r + 1) (omega arith) in
-      lt-of-not-le (λ le. not-le-of-lt (leb-false _ _ (above (le-trans (self-le (r + 1) pos) le))) le)
+      lt-of-not-le (λ le. not-le-of-lt (leb-false _ _ (floor-tests .1 (floorRoot p + 1) (omega arith) (le-trans (self-le (floorRoot p + 1) pos) le))) le)
 
   pub ceiling-root-above : p .num ≤ ceilingRoot p * ceilingRoot p * p .den
-  unfolding ceilingRoot
-  ceiling-root-above = leb-true _ _ (least-passes (λ r. leb (p .num) (r * r * p .den)) (p .num) (le-leb _ _ (self-le (p .num) pos)) .0)
+  ceiling-root-above = leb-true _ _ (ceiling-tests .0)
 
   pub above-previous-root : 0 < ceilingRoot p → (ceilingRoot p - 1) * (ceilingRoot p - 1) * p .den < p .num
-  unfolding ceilingRoot
-  above-previous-root some = leb-false _ _ (least-passes (λ r. leb (p .num) (r * r * p .den)) (p .num) (le-leb _ _ (self-le (p .num) pos)) .1 (ceilingRoot p - 1) (omega arith))
+  above-previous-root some = leb-false _ _ (ceiling-tests .1 (ceilingRoot p - 1) (omega arith))
 
   -- no other number has these properties
   pub floor-root-is : (n : ℕ) → n * n * p .den ≤ p .num → p .num < (n + 1) * (n + 1) * p .den → n ≡ floorRoot p

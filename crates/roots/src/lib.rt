@@ -5,13 +5,13 @@ ghost use Rattle.fractions.specs.Fraction.{_over_};
 ghost use Rattle.roots.specs.Root.{rootBounds};
 use fractions::Bounds;
 
-// The largest v with (a + v)² at most a² + gap, found by bisection; top is too large for it.
-fn increment(a: u64, gap: u64, top: u64) -> u64
-    requires { ⌜ (gap < top * (2 * a + top)) × (top * (2 * a + top) ≤ 2 ^ 64) × (a < 2 ^ 62) × (top < 2 ^ 62) ⌝ }
-    ensures { λ v. ⌜ (v * (2 * a + v) ≤ gap) × (gap < (v + 1) * (2 * a + (v + 1))) × (v < top) ⌝ }
+// The largest v with (a + v)² at most a² + gap, by bisection; it is below limit.
+fn increment(a: u64, gap: u64, limit: u64) -> u64
+    requires { ⌜ (gap < limit * (2 * a + limit)) × (limit * (2 * a + limit) ≤ 2 ^ 64) × (a < 2 ^ 62) × (limit < 2 ^ 62) ⌝ }
+    ensures { λ v. ⌜ (v * (2 * a + v) ≤ gap) × (gap < (v + 1) * (2 * a + (v + 1))) × (v < limit) ⌝ }
 {
     let mut v = 0;
-    let mut end = top;
+    let mut end = limit;
     while 1 < end - v {
         let middle = v + (end - v) / 2;
         if middle * (2 * a + middle) <= gap {
@@ -23,8 +23,8 @@ fn increment(a: u64, gap: u64, top: u64) -> u64
     v
 }
 
-// The whole numbers next to the root of k² n / d. With u the whole root of n / d, k u is part of it, and what k u lacks makes the
-// rest: k² n itself is never formed.
+// The root of k² n / d, rounded down and rounded up. With u the whole root of n / d, it is k u and v more: k² n itself, of up to 87
+// bits, is never formed.
 pub fn root(k: u64, n: u64, d: u64) -> Bounds
     requires { ⌜ (0 < k) × (k < 4096) × (n < 2 ^ 63) × (0 < d) × (d < 2 ^ 30) ⌝ }
     ensures { λ r. ⌜ r ≡ rootBounds ((k * k * n) over d) ⌝ }

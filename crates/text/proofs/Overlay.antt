@@ -3,8 +3,9 @@
 use mathlib.Core.Path.{_≡_, sym, ap, _∙_}
 use mathlib.Core.List.{List, [], _++_, append-assoc, append-nil}
 use Prim.Native.Nat.{ℕ, _+_, _-_, _≤_}
+use native.Mathlib.Nat.{add-zero}
 use native.Mathlib.Omega.{arith}
-use lib.ListN.{length, take, drop, length-append, length-take, length-drop}
+use lib.ListN.{length, take, drop, length-append, length-take, length-drop, take-append-drop}
 use lib.Seq.{take-at, take-all, take-length, drop-length, drop-append-add, drop-drop}
 use Rattle.text.specs.Text.{overlay, Written}
 
@@ -29,16 +30,14 @@ put-back b at v part fits e =
     let rest : drop (length b - at) (drop at b) ≡ [] = ap (λ (k : ℕ). drop k (drop at b)) (sym size) ∙ drop-length (drop at b) in
     rw (e, rest, append-nil, take-length, take-all (length b - at) (drop at b) (omega arith), drop-drop, ← append-assoc)
 
--- one piece after another
+-- no piece at all, and one piece after another
+pub nothing : (b : List ℕ) (at : ℕ) → Written b at [] b at
+unfolding overlay
+nothing b at = record { end = omega arith; bytes = sym (rw (add-zero, append-nil) (take-append-drop at b)) }
+
 pub then : {b v c w d : List ℕ} {at e f : ℕ} → Written b at v c e → e ≤ length b → Written c e w d f → Written b at (v ++ w) d f
 then {b} {v} {c} {w} {d} {at} {e} {f} first fits second =
     record {
       end = omega (arith, first .end, second .end, length-append v w);
       bytes = second .bytes ∙ rw (first .bytes, first .end) (overlay-more b at v w (omega (arith, first .end)));
     }
-
--- up to the end stand what stood before the piece, and the piece
-pub up-to-end : {b v c : List ℕ} {at e : ℕ} → Written b at v c e → e ≤ length b → take e c ≡ take at b ++ v
-unfolding overlay
-up-to-end {b} {v} {c} {at} {e} w fits =
-    rw (w .bytes, w .end) (take-at (take at b ++ v) (drop (at + length v) b) (at + length v) (simp (length-append, length-take) (omega (arith, w .end))))

@@ -1,23 +1,24 @@
--- `annex::put_page` meets its contract. The loop's invariant: up to the end stand the header and the first k lines. The measure is what is left of the entries.
+-- `annex::put_page` meets its contract. The loop's invariant: the first k lines stand after the header. The measure is what is left of the entries.
 -- Assumes nothing.
-use mathlib.Core.Path.{_≡_, sym, ap, _∙_}
-use mathlib.Core.List.{List, _++_}
-use Prim.Native.Nat.{ℕ, _+_, _-_, _*_, _≤_}
+use mathlib.Core.Path.{_≡_, sym}
+use Prim.Native.Nat.{_+_, _-_, _*_, _≤_}
 use native.Mathlib.Numerals.{add-one}
 use native.Mathlib.Omega.{arith}
 use borrow.Author.Needs.{needs}
-use lib.ListN.{length, take}
+use lib.ListN.{length}
 use lib.Seq.{length-take-le}
-use Rattle.text.proofs.Overlay.{up-to-end}
-use Rattle.annex.specs.Page.{line, page}
+use Rattle.annex_tables.specs.Annex.{entries}
+use Rattle.text.specs.Text.{Written}
+use Rattle.text.proofs.Overlay.{nothing, then}
+use Rattle.annex.specs.Page.{lines}
 use Rattle.annex.proofs.put_page.Statement.{statement}
 use Rattle.annex.proofs.put_page.Tie as tie
 
 abbrev Inv-loop : tie.InvT-loop
-Inv-loop out₀ end₀ k₀ out end k = (k ≤ 1591) × (end ≤ 14 + 63 * k) × (length out ≡ length out₀) × (take end out ≡ page k)
+Inv-loop out₀ end₀ k₀ out end k = (k ≤ entries) × (end ≤ 14 + 63 * k) × (length out ≡ length out₀) × Written out₀ end₀ (lines k) out end
 
 abbrev μ-loop : tie.MeasureT-loop
-μ-loop out₀ end₀ k₀ out end k = 1591 - k
+μ-loop out₀ end₀ k₀ out end k = entries - k
 
 slice-aggregate-put : tie.Need-slice-aggregate-put Inv-loop μ-loop
 slice-aggregate-put c = search needs
@@ -26,10 +27,10 @@ put-requires : tie.Need-put-requires Inv-loop μ-loop
 put-requires c κs = omega arith
 
 loop-holds : tie.Need-loop-holds Inv-loop μ-loop
-unfolding page
+unfolding lines
 loop-holds c =
-    let header = c .before .before .put .ensures in
-    (omega arith, omega (arith, header .end), search needs, up-to-end header (omega (arith, header .end)))
+    let put = c .before .before .put in
+    (omega arith, omega (arith, put .ensures .end), search needs, nothing (put .last .0) (put .result))
 
 put-line-requires : tie.Need-put-line-requires Inv-loop μ-loop
 put-line-requires c κs = omega arith
@@ -41,11 +42,11 @@ loop-less : tie.Need-loop-less Inv-loop μ-loop
 loop-less c = search needs
 
 loop-again : tie.Need-loop-again Inv-loop μ-loop
-unfolding page
+unfolding lines
 loop-again c =
     let loop = c .before .before .before .before .before .loop in
     let put = c .before .before .put-line .ensures in
-    (omega arith, omega arith, omega arith, rw (add-one (loop .k)) (up-to-end (put .0) (omega arith) ∙ ap (λ (t : List ℕ). t ++ line (loop .k)) (loop .inv .3)))
+    (omega arith, omega arith, omega arith, rw (add-one (loop .k)) (then (loop .inv .3) (omega arith) (put .0)))
 
 same-length : tie.Need-same-length Inv-loop μ-loop
 same-length c = search needs
@@ -53,9 +54,10 @@ same-length c = search needs
 returns : tie.Need-returns Inv-loop μ-loop
 returns c =
     let loop = c .before .loop in
-    let all : loop .k ≡ 1591 = omega arith in
+    let header = c .before .before .before .before .put .ensures in
+    let all : loop .k ≡ entries = omega arith in
     let within : loop .end ≤ length (loop .out) = omega arith in
-    ((within, sym (length-take-le (loop .end) (loop .out) within)), loop .inv .3 ∙ ap page all)
+    (then header (omega (arith, header .end)) (rw all at (loop .inv .3)), (within, sym (length-take-le (loop .end) (loop .out) within)))
 
 pub put-page-spec : {M : Type 1} → statement M
 put-page-spec =

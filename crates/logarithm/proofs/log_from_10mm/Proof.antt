@@ -6,7 +6,7 @@ use native.Mathlib.Omega.{arith}
 use borrow.Author.Needs.{needs}
 use Rattle.fractions.proofs.Sides.{lower-of, upper-of, both-of}
 use Rattle.quadrature.specs.Figures.{lowerStep, upperStep, logBounds}
-use Rattle.logarithm.proofs.Steps.{extended, lower-small, upper-small}
+use Rattle.logarithm.proofs.Steps.{log-next, lower-small, upper-small}
 use Rattle.logarithm.proofs.log_from_10mm.Statement.{statement}
 use Rattle.logarithm.proofs.log_from_10mm.Tie as tie
 
@@ -40,12 +40,12 @@ step-requires c κs = search needs
 add-lower : tie.Need-add-lower Inv-loop μ-loop
 add-lower c =
     let loop = c .before .before .before .loop in
-    omega (arith, extended lowerStep lower-small (loop .inv .0) (omega arith) (loop .inv .3) (lower-of (c .before .step .ensures)))
+    omega (arith, log-next lowerStep lower-small (loop .inv .0) (omega arith) (loop .inv .3) (lower-of (c .before .step .ensures)))
 
 add-upper : tie.Need-add-upper Inv-loop μ-loop
 add-upper c =
     let loop = c .before .before .before .before .loop in
-    omega (arith, extended upperStep upper-small (loop .inv .0) (omega arith) (loop .inv .4) (upper-of (c .before .before .step .ensures)))
+    omega (arith, log-next upperStep upper-small (loop .inv .0) (omega arith) (loop .inv .4) (upper-of (c .before .before .step .ensures)))
 
 add-i-2 : tie.Need-add-i-2 Inv-loop μ-loop
 add-i-2 c = search needs
@@ -57,8 +57,8 @@ loop-again : tie.Need-loop-again Inv-loop μ-loop
 loop-again c =
     let loop = c .before .before .before .before .loop in
     let step = c .before .before .step .ensures in
-    let lower = extended lowerStep lower-small (loop .inv .0) (omega arith) (loop .inv .3) (lower-of step) in
-    let upper = extended upperStep upper-small (loop .inv .0) (omega arith) (loop .inv .4) (upper-of step) in
+    let lower = log-next lowerStep lower-small (loop .inv .0) (omega arith) (loop .inv .3) (lower-of step) in
+    let upper = log-next upperStep upper-small (loop .inv .0) (omega arith) (loop .inv .4) (upper-of step) in
     (search needs, search needs, search needs, lower .1, upper .1)
 
 returns : tie.Need-returns Inv-loop μ-loop

@@ -9,13 +9,13 @@ use Rattle.roots.proofs.increment.Statement.{statement}
 use Rattle.roots.proofs.increment.Tie as tie
 
 abbrev Inv-loop : tie.InvT-loop
-Inv-loop a gap top v₀ end₀ v end = (v < end) × (end ≤ top) × (v * (2 * a + v) ≤ gap) × (gap < end * (2 * a + end))
+Inv-loop a gap limit v₀ end₀ v end = (v < end) × (end ≤ limit) × (v * (2 * a + v) ≤ gap) × (gap < end * (2 * a + end))
 
 abbrev μ-loop : tie.MeasureT-loop
-μ-loop a gap top v₀ end₀ v end = end - v
+μ-loop a gap limit v₀ end₀ v end = end - v
 
 loop-holds : tie.Need-loop-holds Inv-loop μ-loop
-loop-holds c = (factor-pos (c .args .top) (2 * c .args .a + c .args .top) (c .pre .0), search needs, search needs, c .pre .0)
+loop-holds c = (factor-pos (c .args .limit) (2 * c .args .a + c .args .limit) (c .pre .0), search needs, search needs, c .pre .0)
 
 sub-loop : tie.Need-sub-loop Inv-loop μ-loop
 sub-loop c = search needs
@@ -36,7 +36,7 @@ mul-if1-2 : tie.Need-mul-if1-2 Inv-loop μ-loop
 mul-if1-2 c =
     let loop = c .before .loop in
     let a = c .before .before .args in
-    omega (arith, gain-lt (a .a) {v = loop .v + (loop .end - loop .v) / 2} {w = a .top} (omega arith))
+    omega (arith, gain-lt (a .a) {v = loop .v + (loop .end - loop .v) / 2} {w = a .limit} (omega arith))
 
 loop-less : tie.Need-loop-less Inv-loop μ-loop
 loop-less c = search needs

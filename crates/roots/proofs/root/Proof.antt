@@ -5,7 +5,7 @@ use native.Mathlib.Nat.{mod-lt, div-le-self, pos-of-ne-zero}
 use native.Mathlib.Omega.{arith}
 use borrow.Author.Needs.{needs}
 use Rattle.fractions.proofs.Sides.{both-of}
-use Rattle.roots.proofs.Parts.{First, Found, first, found, product-le}
+use Rattle.roots.proofs.Parts.{FirstPart, BothParts, first-part, both-parts, product-le}
 use Rattle.roots.proofs.root.Statement.{statement}
 use Rattle.roots.proofs.root.Tie as tie
 
@@ -28,18 +28,18 @@ increment-requires : tie.Need-increment-requires
 increment-requires c κs = omega (arith, div-le-self (c .args .n) (c .args .d))
 
 -- what the first call of `increment` gives, and the second
-part-1 : (c : tie.After-increment) → First (c .before .args .k) (c .before .args .n) (c .before .args .d) (c .increment .result)
+part-1 : (c : tie.After-increment) → FirstPart (c .before .args .k) (c .before .args .n) (c .before .args .d) (c .increment .result)
 part-1 c =
     let a = c .before .args in
     let pre = c .before .pre in
     let got = c .increment .ensures in
-    first (a .k) (a .n) (a .d) (c .increment .result) (pre .0) (pre .1) (pre .3) (got .0) (got .1) (got .2)
+    first-part (a .k) (a .n) (a .d) (c .increment .result) (pre .0) (pre .1) (pre .3) (got .0) (got .1) (got .2)
 
-part-2 : (c : tie.After-increment2) → Found (c .before .before .args .k) (c .before .before .args .n) (c .before .before .args .d) (c .before .increment .result) (c .increment2 .result)
+part-2 : (c : tie.After-increment2) → BothParts (c .before .before .args .k) (c .before .before .args .n) (c .before .before .args .d) (c .before .increment .result) (c .increment2 .result)
 part-2 c =
     let a = c .before .before .args in
     let got = c .increment2 .ensures in
-    found (a .k) (a .n) (a .d) (c .before .increment .result) (c .increment2 .result) (c .before .before .pre .3) (part-1 (c .before) .low) (got .0) (got .1)
+    both-parts (a .k) (a .n) (a .d) (c .before .increment .result) (c .increment2 .result) (c .before .before .pre .3) (part-1 (c .before) .low) (got .0) (got .1)
 
 mul-a : tie.Need-mul-a
 mul-a c = omega (arith, part-1 c)

@@ -9,7 +9,7 @@ use native.Mathlib.Omega.{arith}
 use borrow.Author.Needs.{needs}
 use Rattle.quadrature.specs.Sums.{summed}
 use Rattle.quadrature.specs.Figures.{upperStep}
-use Rattle.annex_tables.proofs.Rule.{Passed, passed-first, passed-this, passed-other, entry-of}
+use Rattle.annex_tables.proofs.Rule.{Passed, passed-first, passed-this, passed-other, held-entry}
 use Rattle.annex_tables.proofs.upper.entry.Statement.{statement}
 use Rattle.annex_tables.proofs.upper.entry.Tie as tie
 
@@ -50,7 +50,7 @@ array-read-result : tie.Need-array-read-result Inv-loop μ-loop
 array-read-result c = search needs
 
 returns : tie.Need-returns Inv-loop μ-loop
-returns c = entry-of (c .before .loop .inv .1) (omega arith) (c .before .before .before .pre)
+returns c = held-entry (c .before .loop .inv .1) (omega arith) (c .before .before .before .pre)
 
 pub entry-spec : {M : Type 1} → statement M
 entry-spec =

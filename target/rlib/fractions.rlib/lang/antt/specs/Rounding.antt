@@ -1,4 +1,4 @@
--- The whole numbers next to a fraction. 01, "Ladder and figures": "rounded down", "rounded up".
+-- A fraction rounded down and rounded up, as 01, "Ladder and figures", rounds its figures and quotients.
 -- Assumes nothing.
 use Prim.Native.Nat.{ℕ, _+_, _-_, _/_}
 use Rattle.fractions.specs.declared.Bounds.{Bounds}
