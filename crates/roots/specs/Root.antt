@@ -17,11 +17,11 @@ unfoldable pub least : (ℕ → Bool) → ℕ → ℕ
 least p zero = 0
 least p (suc n) = elim (p 0) [ true ↦ 0 | false ↦ suc (least (λ m. p (suc m)) n) ]
 
--- the largest whole number whose square is not above the fraction
+-- the largest whole number whose square times the denominator is at most the numerator, which no larger number can pass
 unfoldable pub floorRoot : Fraction → ℕ
 floorRoot p = largest (λ r. leb (r * r * p .den) (p .num)) (p .num)
 
--- the least whole number whose square is not below it
+-- the least whole number whose square times the denominator is at least the numerator, which the numerator itself passes
 unfoldable pub ceilingRoot : Fraction → ℕ
 ceilingRoot p = least (λ r. leb (p .num) (r * r * p .den)) (p .num)
 

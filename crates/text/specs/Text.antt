@@ -16,7 +16,7 @@ pub record Written (b : List ℕ) (at : ℕ) (v c : List ℕ) (e : ℕ) : Type 0
   pub end : e ≡ at + length v
   pub bytes : c ≡ overlay b at v
 
--- the decimal digits of n in ASCII, k + 1 at the most
+-- the decimal digits of n in ASCII, k + 1 at the most; n + 1 are always enough
 unfoldable pub decimalUpTo : ℕ → ℕ → List ℕ
 decimalUpTo zero n = (48 + n) ∷ []
 decimalUpTo (suc k) n = elim (ltb n 10) [ true ↦ (48 + n) ∷ [] | false ↦ decimalUpTo k (n / 10) ++ ((48 + n % 10) ∷ []) ]
