@@ -1,7 +1,7 @@
 -- The annex's rule, tested once over a whole table, and what it says of each entry. 01, "Ladder and figures": "1,591 entries for each of the
 -- two, the first being 0; each entry is the one before it plus ten steps". One law serves both tables, over the figures f of a step.
 -- Assumes nothing.
-use mathlib.Core.Path.{_≡_, _∙_, refl, ap}
+use mathlib.Core.Path.{_≡_, _∙_, ap}
 use mathlib.Core.Bool.{Bool, true, false, _&&_}
 use mathlib.Core.List.{List, [], _∷_, flatten}
 use Prim.Native.Nat.{ℕ, zero, suc, _+_, _-_, _*_, _/_, _%_, _<_}

@@ -3,7 +3,7 @@
 use mathlib.Core.Path.{_≡_, refl}
 use Prim.Native.Nat.{ℕ, _+_, _≤_, _<_}
 use native.Mathlib.Omega.{arith}
-use Rattle.quadrature.specs.Ladder.{grade, top, rungs, thicknessAt}
+use Rattle.quadrature.specs.Ladder.{rungs, thicknessAt}
 
 pub record LadderRungs : Type 0 where
   pub first : thicknessAt 0 ≡ 0

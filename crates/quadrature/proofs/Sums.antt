@@ -2,7 +2,7 @@
 -- Assumes nothing.
 use mathlib.Core.Path.{_≡_, sym}
 use Prim.Native.Nat.{ℕ, zero, suc, _+_, _-_, _*_, _≤_, _<_}
-use native.Mathlib.Nat.{add-zero, add-suc, add-assoc, mul-zero, mul-suc, mul-add, mul-pos, mul-le-mul-right, le-dest, add-sub-of-le, sub-self}
+use native.Mathlib.Nat.{add-zero, add-suc, add-assoc, mul-zero, mul-suc, mul-add, mul-pos, mul-le-mul-right, le-dest, sub-self}
 use native.Mathlib.Omega.{arith}
 use Rattle.fractions.specs.Fraction.{Fraction, _over_, plus, _≼_, _≺_}
 use Rattle.fractions.proofs.Order.{fraction-path, plus-mono}

@@ -1,12 +1,12 @@
 -- The root of k² n / d in two parts: k times the whole root u of n / d, and v more.
 -- Assumes nothing.
-use mathlib.Core.Path.{_≡_, sym, ap, _∙_}
+use mathlib.Core.Path.{_≡_, ap}
 use Prim.Native.Nat.{ℕ, _+_, _-_, _*_, _/_, _%_, _^_, _≤_, _<_}
-use native.Mathlib.Nat.{mul-add, add-sub-of-le, mul-le-mul, mul-le-mul-left, mul-le-mul-right, mul-lt-mul-of-pos-left, mul-pos, mod-lt, div-add-mod', div-lt-iff-lt-mul, le-mul-of-pos-right, lt-of-lt-of-le}
+use native.Mathlib.Nat.{add-sub-of-le, mul-le-mul, mul-le-mul-left, mul-le-mul-right, mul-lt-mul-of-pos-left, mul-pos, mod-lt, div-add-mod', div-lt-iff-lt-mul, le-mul-of-pos-right}
 use native.Mathlib.Omega.{arith}
 use Rattle.fractions.specs.Fraction.{_over_}
 use Rattle.roots.specs.Root.{floorRoot, ceilingRoot}
-use Rattle.roots.proofs.Squares.{square-le, square-gain}
+use Rattle.roots.proofs.Squares.{square-le}
 use Rattle.roots.proofs.Roots.{floor-root-is, ceiling-root-is}
 
 -- Where a is (r² + s) d + t, with s too little for the next square and t too little for the next multiple, r is the lower root.

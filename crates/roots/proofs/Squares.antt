@@ -1,8 +1,7 @@
 -- Squares: where they lie, and what they grow by.
 -- Assumes nothing.
-use mathlib.Core.Path.{_≡_}
 use Prim.Native.Nat.{ℕ, zero, suc, _+_, _*_, _≤_, _<_}
-use native.Mathlib.Nat.{le-trans, lt-of-le-of-lt, lt-of-not-le, not-le-of-lt, zero-lt-suc, le-mul-of-pos-right, mul-le-mul, mul-le-mul-left, mul-le-mul-right, mul-lt-mul-of-pos-right}
+use native.Mathlib.Nat.{lt-of-not-le, not-le-of-lt, mul-le-mul, mul-le-mul-left, mul-le-mul-right}
 use native.Mathlib.Omega.{arith}
 
 pub square-le : {x y : ℕ} (d : ℕ) → x ≤ y → x * x * d ≤ y * y * d
@@ -13,16 +12,12 @@ root-lt d h = lt-of-not-le (λ le. not-le-of-lt h (square-le d le))
 
 pub self-le : (n : ℕ) {d : ℕ} → 0 < d → n ≤ n * n * d
 self-le zero h = omega arith
-self-le (suc n) h = le-trans (le-mul-of-pos-right (suc n) (zero-lt-suc n)) (le-mul-of-pos-right (suc n * suc n) h)
-
-pub square-gain : (a v : ℕ) → (a + v) * (a + v) ≡ a * a + v * (2 * a + v)
-square-gain a v = omega arith
+self-le (suc n) h = omega (arith, mul-le-mul-left (suc n * suc n) h)
 
 -- what v adds to the square of a grows with v
 pub gain-lt : (a : ℕ) {v w : ℕ} → v < w → v * (2 * a + v) < w * (2 * a + w)
-gain-lt a {v} {w} h =
-    lt-of-le-of-lt (mul-le-mul-left {m = 2 * a + v} {n = 2 * a + w} v (omega arith)) (mul-lt-mul-of-pos-right {k = 2 * a + w} h (omega arith))
+gain-lt a h = omega (arith, mul-le-mul h h, mul-le-mul-left a h)
 
 pub factor-pos : (t x : ℕ) {g : ℕ} → g < t * x → 0 < t
 factor-pos zero x h = omega arith
-factor-pos (suc t) x h = zero-lt-suc t
+factor-pos (suc t) x h = omega arith

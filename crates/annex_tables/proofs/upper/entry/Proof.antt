@@ -1,17 +1,19 @@
 -- `annex_tables::upper::entry` meets its contract. The loop's invariant: row i is held once it was passed. The measure is what is left of the rows.
--- The table's rule is one test, which antt computes over the table as the function has it in its local.
 -- Assumes nothing.
-use mathlib.Core.Path.{_≡_, subst, sym}
 use mathlib.Core.Logic.{⊎-elim}
 use mathlib.Core.List.{List, flatten}
-use Prim.Native.Nat.{ℕ, _+_, _-_, _≤_}
+use Prim.Native.Nat.{ℕ, _-_, _≤_}
 use native.Mathlib.Omega.{arith}
 use borrow.Author.Needs.{needs}
+use borrow.Table.Row.{get}
+use lib.Dec.{T}
 use Rattle.quadrature.specs.Sums.{summed}
 use Rattle.quadrature.specs.Figures.{upperStep}
-use Rattle.annex_tables.proofs.Rule.{Passed, passed-first, passed-this, passed-other, held-entry}
+use Rattle.annex_tables.proofs.Rule.{rule, Passed, passed-first, passed-this, passed-other, held-entry}
 use Rattle.annex_tables.proofs.upper.entry.Statement.{statement}
 use Rattle.annex_tables.proofs.upper.entry.Tie as tie
+use Rattle.annex_tables.proofs.upper.entry.Reads as reads
+use Rattle.annex_tables.proofs.upper.entry.Lts as lts
 
 abbrev Inv-loop : tie.InvT-loop
 Inv-loop k table i row₀ n₀ row n = (n ≤ 37) × Passed upperStep table i n row
@@ -22,9 +24,17 @@ abbrev μ-loop : tie.MeasureT-loop
 array-copy-out-row : tie.Need-array-copy-out-row Inv-loop μ-loop
 array-copy-out-row c = search needs
 
-loop-holds : tie.Need-loop-holds Inv-loop μ-loop
+-- the table, as the function has it in its local
+abbrev table-of : tie.After-row Inv-loop μ-loop → List (List ℕ)
+table-of c = get 2 (lts.T125 .locals) (lts.m124 reads.Pre reads.Post Inv-loop μ-loop (c .before) (c .row .given))
+
+-- the whole table passes the rule, by one test that antt computes
+table-ruled : (c : tie.After-row Inv-loop μ-loop) → T (rule upperStep (table-of c))
 unfolding summed upperStep flatten
-loop-holds c = (search needs, passed-first tt)
+table-ruled c = tt
+
+loop-holds : tie.Need-loop-holds Inv-loop μ-loop
+loop-holds c = (search needs, passed-first (table-ruled c))
 
 mul-row : tie.Need-mul-row Inv-loop μ-loop
 mul-row c = search needs
