@@ -55,7 +55,11 @@ log-small : (f : ℕ → ℕ) → Small f → (d : ℕ) {e : ℕ} → e ≤ 1600
 log-small f s d {e} le = le-trans (small-total f s d (e - d)) (mul-le-mul-right {m = e - d} {n = 16000} (2 * tera) (omega arith))
 
 -- the sum s to i and the step x from i are the sum to i + 1, which fits
-pub log-next : (f : ℕ → ℕ) → Small f → {d i s x : ℕ} → d ≤ i → i < 16000 → s ≡ total f d (i - d) → x ≡ f i → (s + x ≤ 16000 * (2 * tera)) × (s + x ≡ total f d (i + 1 - d))
-log-next f small {d} {i} {s} {x} le lt sum step =
+pub record Next (f : ℕ → ℕ) (d i s x : ℕ) : Type 0 where
+  pub small : s + x ≤ 16000 * (2 * tera)
+  pub sum : s + x ≡ total f d (i + 1 - d)
+
+pub next : (f : ℕ → ℕ) → Small f → {d i s x : ℕ} → d ≤ i → i < 16000 → s ≡ total f d (i - d) → x ≡ f i → Next f d i s x
+next f small {d} {i} le lt sum step =
     let more = one-more f le in
     omega (arith, log-small f small d {e = i + 1} (omega arith))
