@@ -1,3 +1,0 @@
-pub mod Order
-pub mod Rounding
-pub mod Sides

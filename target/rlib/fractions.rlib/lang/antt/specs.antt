@@ -1,2 +1,0 @@
-pub mod Fraction
-pub mod Rounding
