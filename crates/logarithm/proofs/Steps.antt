@@ -1,10 +1,9 @@
 -- Sums of steps from one diameter to another: one step more, and in two parts; and that they fit 64 bits. Each law is over the figures f of a step.
 -- Assumes nothing.
 use mathlib.Core.Path.{_≡_}
-use Prim.Native.Nat.{ℕ, zero, suc, _+_, _-_, _*_, _≤_, _<_}
-use native.Mathlib.Nat.{add-sub-of-le, le-trans, div-le-self, div-le-of-le-mul, mul-le-mul-left, mul-le-mul-right}
+use Prim.Native.Nat.{ℕ, zero, suc, _+_, _-_, _*_, _^_, _≤_, _<_}
+use native.Mathlib.Nat.{add-sub-of-le, le-trans, div-le-of-le-mul, mul-le-mul-left, mul-le-mul-right}
 use native.Mathlib.Omega.{arith}
-use lib.Dec.{lit≤}
 use Rattle.quadrature.specs.Sums.{summed, total}
 use Rattle.quadrature.specs.Figures.{tera, lowerStep, upperStep}
 use Rattle.quadrature.proofs.Sums.{total-join}
@@ -28,38 +27,34 @@ pub record Difference (f : ℕ → ℕ) (d e a b : ℕ) : Type 0 where
 pub difference : (f : ℕ → ℕ) {c d e a b : ℕ} → c ≤ d → d ≤ e → a ≡ total f c (d - c) → b ≡ total f c (e - c) → Difference f d e a b
 difference f le le′ inner outer = omega (arith, split f le le′)
 
--- No step is above 2 × 10¹².
+-- No step from 10.0 mm on is above 10¹⁰, so the logarithm to e is at most e × 10¹⁰.
 abbrev pub Small : (ℕ → ℕ) → Type 0
-Small f = (i : ℕ) → f i ≤ 2 * tera
+Small f = (i : ℕ) → 100 ≤ i → f i ≤ 10 ^ 10
 
 pub lower-small : Small lowerStep
 unfolding lowerStep
-lower-small i = div-le-self (2 * tera) (2 * i + 1)
+lower-small i le = div-le-of-le-mul (2 * i + 1) {m = 2 * tera} {n = 10 ^ 10} (omega arith)
 
 pub upper-small : Small upperStep
 unfolding upperStep
-upper-small zero = lit≤ tt
-upper-small (suc j) =
-    let n = 2 * suc j + 1 in
-    let d = 2 * suc j * (suc j + 1) in
-    let more : 2 * suc j * 2 ≤ d = mul-le-mul-left (2 * suc j) (omega arith) in
-    div-le-of-le-mul d {m = tera * n + (d - 1)} {n = 2 * tera} (omega arith)
+upper-small i le =
+    let d = 2 * i * (i + 1) in
+    div-le-of-le-mul d {m = tera * (2 * i + 1) + (d - 1)} {n = 10 ^ 10} (omega (arith, mul-le-mul-left i le))
 
-small-total : (f : ℕ → ℕ) → Small f → (d n : ℕ) → total f d n ≤ n * (2 * tera)
+small-total : (f : ℕ → ℕ) → Small f → (d n : ℕ) → 100 ≤ d → total f d n ≤ n * 10 ^ 10
 unfolding summed
-small-total f s d zero = omega arith
-small-total f s d (suc n) = omega (arith, small-total f s d n, s (d + n))
+small-total f s d zero le = omega arith
+small-total f s d (suc n) le = omega (arith, small-total f s d n le, s (d + n) (omega arith))
 
--- so the logarithm to 1,600 mm fits
-log-small : (f : ℕ → ℕ) → Small f → (d : ℕ) {e : ℕ} → e ≤ 16000 → total f d (e - d) ≤ 16000 * (2 * tera)
-log-small f s d {e} le = le-trans (small-total f s d (e - d)) (mul-le-mul-right {m = e - d} {n = 16000} (2 * tera) (omega arith))
+pub log-small : (f : ℕ → ℕ) → Small f → {d : ℕ} (e : ℕ) → 100 ≤ d → total f d (e - d) ≤ e * 10 ^ 10
+log-small f s {d} e le = le-trans (small-total f s d (e - d) le) (mul-le-mul-right {m = e - d} {n = e} (10 ^ 10) (omega arith))
 
 -- the sum s to i and the step x from i are the sum to i + 1, which fits
 pub record Next (f : ℕ → ℕ) (d i s x : ℕ) : Type 0 where
-  pub small : s + x ≤ 16000 * (2 * tera)
+  pub small : s + x ≤ 16000 * 10 ^ 10
   pub sum : s + x ≡ total f d (i + 1 - d)
 
-pub next : (f : ℕ → ℕ) → Small f → {d i s x : ℕ} → d ≤ i → i < 16000 → s ≡ total f d (i - d) → x ≡ f i → Next f d i s x
-next f small {d} {i} le lt sum step =
+pub next : (f : ℕ → ℕ) → Small f → {d i s x : ℕ} → 100 ≤ d → d ≤ i → i < 16000 → s ≡ total f d (i - d) → x ≡ f i → Next f d i s x
+next f small {d} {i} from le lt sum step =
     let more = one-more f le in
-    omega (arith, log-small f small d {e = i + 1} (omega arith))
+    omega (arith, log-small f small {d = d} (i + 1) from)

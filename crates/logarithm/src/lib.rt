@@ -26,12 +26,11 @@ pub fn log_from_10mm(e: Diameter) -> Bounds
     Bounds { lower, upper }
 }
 
-// The logarithm from d to e: what lies below d taken off.
-pub fn log(d: Diameter, e: Diameter) -> Bounds
-    requires { ⌜ (100 ≤ d .0) × (d .0 ≤ e .0) × (e .0 ≤ 16000) ⌝ }
+// The logarithm from d to e: what lies below d, the logarithm `inner` from 10.0 mm to d, taken off.
+pub fn log_beyond(inner: Bounds, d: Diameter, e: Diameter) -> Bounds
+    requires { ⌜ (inner ≡ logBounds 100 (d .0)) × (100 ≤ d .0) × (d .0 ≤ e .0) × (e .0 ≤ 16000) ⌝ }
     ensures { λ r. ⌜ r ≡ logBounds (d .0) (e .0) ⌝ }
 {
-    let inner = log_from_10mm(d);
     let outer = log_from_10mm(e);
     Bounds {
         lower: outer.lower - inner.lower,

@@ -1,3 +1,4 @@
+pub mod Least
 pub mod Squares
 pub mod Roots
 mod Parts

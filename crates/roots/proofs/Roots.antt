@@ -9,33 +9,9 @@ use native.Mathlib.Omega.{arith}
 use lib.Dec.{leb}
 use borrow.Author.Tests.{le-leb, leb-true, leb-false}
 use Rattle.fractions.specs.Fraction.{Fraction}
-use Rattle.roots.specs.Root.{largest, least, floorRoot, ceilingRoot}
+use Rattle.roots.specs.Root.{floorRoot, ceilingRoot}
+use Rattle.roots.proofs.Least.{largest-passes, least-before, least-passes}
 use Rattle.roots.proofs.Squares.{square-le, root-lt, self-le}
-
--- The largest that passes does pass, and nothing above it does.
-largest-passes : (p : ℕ → Bool) (n : ℕ) → p 0 ≡ true → (p (largest p n) ≡ true) × ((x : ℕ) → largest p n < x → x ≤ n → p x ≡ false)
-unfolding largest
-largest-passes p zero t = (t, λ x lt le. absurd (omega arith))
-largest-passes p (suc n) t = go (p (suc n)) refl (largest-passes p n t)
-  where
-    go : (b : Bool) → p (suc n) ≡ b → (p (largest p n) ≡ true) × ((x : ℕ) → largest p n < x → x ≤ n → p x ≡ false)
-        → let r : ℕ = elim b as (λ _. ℕ) [ true ↦ suc n | false ↦ largest p n ] in (p r ≡ true) × ((x : ℕ) → r < x → x ≤ suc n → p x ≡ false)
-    go true e rest = (e, λ x lt le. absurd (omega arith))
-    go false e rest = (rest .0, λ x lt le. ⊎-elim (λ (k : x ≤ n). rest .1 x lt k) (λ (k : x ≡ suc n). rw k e) (le-suc-iff .0 le))
-
--- The least that passes does pass, and nothing below it does.
-least-passes : (p : ℕ → Bool) (n : ℕ) → p n ≡ true → (p (least p n) ≡ true) × ((x : ℕ) → x < least p n → p x ≡ false)
-unfolding least
-least-passes p zero t = (t, λ x lt. absurd (not-suc-le-zero lt))
-least-passes p (suc n) t = go (p 0) refl (least-passes (λ m. p (suc m)) n t)
-  where
-    rest : ℕ
-    rest = least (λ m. p (suc m)) n
-
-    go : (b : Bool) → p 0 ≡ b → (p (suc rest) ≡ true) × ((x : ℕ) → x < rest → p (suc x) ≡ false)
-        → let r : ℕ = elim b as (λ _. ℕ) [ true ↦ 0 | false ↦ suc rest ] in (p r ≡ true) × ((x : ℕ) → x < r → p x ≡ false)
-    go true e later = (e, λ x lt. absurd (not-suc-le-zero lt))
-    go false e later = (later .0, λ x. elim x as (λ x. x < suc rest → p x ≡ false) [ zero ↦ λ lt. e | suc y ↦ λ lt. later .1 y (le-of-suc-le-suc lt) ])
 
 module _ (p : Fraction) (pos : 0 < p .den) where
   floor-tests : (leb (floorRoot p * floorRoot p * p .den) (p .num) ≡ true) × ((x : ℕ) → floorRoot p < x → x ≤ p .num → leb (x * x * p .den) (p .num) ≡ false)
@@ -44,7 +20,9 @@ module _ (p : Fraction) (pos : 0 < p .den) where
 
   ceiling-tests : (leb (p .num) (ceilingRoot p * ceilingRoot p * p .den) ≡ true) × ((x : ℕ) → x < ceilingRoot p → leb (p .num) (x * x * p .den) ≡ false)
   unfolding ceilingRoot
-  ceiling-tests = least-passes (λ r. leb (p .num) (r * r * p .den)) (p .num) (le-leb (p .num) (p .num * p .num * p .den) (self-le (p .num) pos))
+  ceiling-tests =
+      let test : ℕ → Bool = λ r. leb (p .num) (r * r * p .den) in
+      (least-passes test (p .num) (le-leb (p .num) (p .num * p .num * p .den) (self-le (p .num) pos)), least-before test (p .num))
 
   pub floor-root-below : floorRoot p * floorRoot p * p .den ≤ p .num
   floor-root-below = leb-true _ _ (floor-tests .0)

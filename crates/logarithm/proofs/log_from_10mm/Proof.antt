@@ -41,12 +41,12 @@ step-requires c κs = search needs
 lower-next : (c : tie.After-step Inv-loop μ-loop) → Next lowerStep 100 (c .before .before .loop .i) (c .before .before .loop .lower) (c .step .result .lower)
 lower-next c =
     let loop = c .before .before .loop in
-    next lowerStep lower-small (loop .inv .0) (omega arith) (loop .inv .4) (lower-of (c .step .ensures))
+    next lowerStep lower-small (omega arith) (loop .inv .0) (omega arith) (loop .inv .4) (lower-of (c .step .ensures))
 
 upper-next : (c : tie.After-step Inv-loop μ-loop) → Next upperStep 100 (c .before .before .loop .i) (c .before .before .loop .upper) (c .step .result .upper)
 upper-next c =
     let loop = c .before .before .loop in
-    next upperStep upper-small (loop .inv .0) (omega arith) (loop .inv .5) (upper-of (c .step .ensures))
+    next upperStep upper-small (omega arith) (loop .inv .0) (omega arith) (loop .inv .5) (upper-of (c .step .ensures))
 
 add-lower : tie.Need-add-lower Inv-loop μ-loop
 add-lower c = omega (arith, lower-next (c .before) .small)

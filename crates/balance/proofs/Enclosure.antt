@@ -1,0 +1,86 @@
+-- What a thickness provides: the whole-number figures enclose it on every cutting, and it grows with the thickness.
+-- Assumes nothing.
+use Prim.Native.Nat.{ℕ, _+_, _*_, _^_, _≤_, _<_}
+use native.Mathlib.Nat.{le-refl, mul-pos, mul-le-mul, mul-le-mul-left, mul-le-mul-right}
+use native.Mathlib.Omega.{arith}
+use Rattle.fractions.specs.Fraction.{Fraction, _over_, plus, _≼_}
+use Rattle.fractions.specs.Rounding.{floor, ceiling}
+use Rattle.fractions.proofs.Order.{≼-trans, plus-mono}
+use Rattle.fractions.proofs.Rounding.{floor-below, ceiling-above}
+use Rattle.quadrature.specs.Units.{outerDiameter}
+use Rattle.quadrature.specs.Figures.{lowerLog, upperLog}
+use Rattle.quadrature.specs.Cuttings.{midpoint, lowerSum, upperSum}
+use Rattle.quadrature.proofs.Enclosure.{Enclosed, enclosed, sum-mono, lower-den, upper-den}
+use Rattle.balance.specs.declared.line.Line.{Line}
+use Rattle.balance.specs.declared.line.Shape.{Shape}
+use Rattle.balance.specs.declared.line.Shape.the-variants.{Cylinder, Flat}
+use Rattle.balance.specs.Line.{shapeOf}
+use Rattle.balance.specs.Provided.{insulation, film, figured, insulationBounds, filmBounds, provided}
+use Rattle.balance.specs.Exact.{summed, providedExactly}
+
+-- no thinner, on a logarithm that is no less
+insulation-mono :
+    (f g : ℕ → ℕ → Fraction) (s : Shape) (D : ℕ) {j k : ℕ} → j ≤ k → f D (outerDiameter D j) ≼ g D (outerDiameter D k) →
+    insulation f s D j ≼ insulation g s D k
+unfolding insulation
+insulation-mono f g Cylinder D {j} {k} le h = omega (arith, mul-le-mul {n₁ = outerDiameter D j} {n₂ = outerDiameter D k} (omega arith) h)
+insulation-mono f g Flat D le h = omega arith
+
+insulation-den : (f : ℕ → ℕ → Fraction) (s : Shape) (D k : ℕ) → 0 < f D (outerDiameter D k) .den → 0 < insulation f s D k .den
+unfolding insulation
+insulation-den f Cylinder D k pos = pos
+insulation-den f Flat D k pos = omega arith
+
+-- each quotient rounded by itself
+floors-below : (p q : Fraction) → (floor p + floor q) over 1 ≼ plus p q
+floors-below p q = omega (arith, mul-le-mul-right (q .den) (floor-below p), mul-le-mul-right (p .den) (floor-below q))
+
+ceilings-above : (p q : Fraction) → 0 < p .den → 0 < q .den → plus p q ≼ (ceiling p + ceiling q) over 1
+ceilings-above p q hp hq = omega (arith, mul-le-mul-right (q .den) (ceiling-above p hp), mul-le-mul-right (p .den) (ceiling-above q hq))
+
+-- The laws of a line whose α and D are not 0, on a cutting m.
+module _ (l : Line) (m : ℕ) (hα : 1 ≤ l .coefficient) (hD : 1 ≤ l .diameter .0) (hm : 1 ≤ m) where
+  quotients-den : (f : ℕ → ℕ → Fraction) (k : ℕ) → 0 < f (l .diameter .0) (outerDiameter (l .diameter .0) k) .den → 0 < plus (insulation f (shapeOf l) (l .diameter .0) k) (film l) .den
+  unfolding film
+  quotients-den f k pos = mul-pos (insulation-den f (shapeOf l) (l .diameter .0) k pos) hα
+
+  quotients-mono :
+      (f g : ℕ → ℕ → Fraction) {j k : ℕ} → j ≤ k →
+      f (l .diameter .0) (outerDiameter (l .diameter .0) j) ≼ g (l .diameter .0) (outerDiameter (l .diameter .0) k) →
+      plus (insulation f (shapeOf l) (l .diameter .0) j) (film l) ≼ plus (insulation g (shapeOf l) (l .diameter .0) k) (film l)
+  quotients-mono f g {j} {k} le h =
+      let D = l .diameter .0 in
+      plus-mono (insulation f (shapeOf l) D j) (film l) (insulation g (shapeOf l) D k) (film l) (insulation-mono f g (shapeOf l) D le h) (le-refl _)
+
+  pub lower-provided-den : (k : ℕ) → 0 < providedExactly (lowerSum m) l k .den
+  unfolding providedExactly
+  lower-provided-den k = quotients-den (summed (lowerSum m)) k (lower-den m _ _)
+
+  pub upper-provided-den : (k : ℕ) → 0 < providedExactly (upperSum m) l k .den
+  unfolding providedExactly
+  upper-provided-den k = quotients-den (summed (upperSum m)) k (upper-den m _ _ hm hD)
+
+  pub provided-below : (k : ℕ) → provided l k .lower over 1 ≼ providedExactly (lowerSum m) l k
+  unfolding provided insulationBounds filmBounds providedExactly
+  provided-below k =
+      let log = figured lowerLog in
+      let D = l .diameter .0 in
+      ≼-trans _ _ _ (quotients-den log k (omega arith)) (floors-below (insulation log (shapeOf l) D k) (film l))
+      (quotients-mono log (summed (lowerSum m)) (le-refl k) (omega (arith, enclosed m D (outerDiameter D k) hm hD .lower)))
+
+  pub provided-above : (k : ℕ) → providedExactly (upperSum m) l k ≼ provided l k .upper over 1
+  unfolding provided insulationBounds filmBounds providedExactly film
+  provided-above k =
+      let log = figured upperLog in
+      let D = l .diameter .0 in
+      ≼-trans _ _ _ (quotients-den log k (omega arith))
+      (quotients-mono (summed (upperSum m)) log (le-refl k) (omega (arith, enclosed m D (outerDiameter D k) hm hD .upper)))
+      (ceilings-above (insulation log (shapeOf l) D k) (film l) (insulation-den log (shapeOf l) D k (omega arith)) hα)
+
+  pub provided-grows : {j k : ℕ} → j ≤ k → providedExactly (lowerSum m) l j ≼ providedExactly (upperSum m) l k
+  unfolding providedExactly
+  provided-grows {j} {k} le =
+      let D = l .diameter .0 in
+      let E = outerDiameter D k in
+      let sums = ≼-trans (lowerSum m D (outerDiameter D j)) (lowerSum m D E) (upperSum m D E) (lower-den m D E) (sum-mono midpoint m D (omega arith)) (enclosed m D E hm hD .sums) in
+      quotients-mono (summed (lowerSum m)) (summed (upperSum m)) le (omega (arith, mul-le-mul-right (10 ^ 5) sums))

@@ -1,0 +1,66 @@
+-- The verdict of a thickness is true of the exact equation, on every cutting.
+-- Assumes nothing.
+use mathlib.Core.Path.{_≡_, refl}
+use mathlib.Core.Bool.{Bool, true, false, cond}
+use Prim.Native.Nat.{ℕ, _≤_, _<_}
+use native.Mathlib.Nat.{le-refl}
+use native.Mathlib.Omega.{arith}
+use lib.Dec.{leb, ltb}
+use borrow.Author.Tests.{leb-true, ltb-true}
+use Rattle.fractions.specs.declared.Bounds.{Bounds}
+use Rattle.fractions.specs.Fraction.{_over_}
+use Rattle.quadrature.specs.Ladder.{thicknessAt}
+use Rattle.quadrature.specs.Cuttings.{lowerSum, upperSum}
+use Rattle.balance.specs.declared.line.Line.{Line}
+use Rattle.balance.specs.declared.verdict.Verdict.{Verdict}
+use Rattle.balance.specs.declared.verdict.Verdict.the-variants.{Sufficient, Insufficient, Undecided}
+use Rattle.balance.specs.Provided.{provided}
+use Rattle.balance.specs.Required.{Requirement, enclosing}
+use Rattle.balance.specs.Verdict.{judged}
+use Rattle.balance.specs.Exact.{providedExactly, Meets, Misses}
+use Rattle.balance.proofs.Requirements.{Proper, meets-more, misses-less, never-both, upper-meets, lower-misses}
+use Rattle.balance.proofs.Enclosure.{lower-provided-den, upper-provided-den, provided-below, provided-above, provided-grows}
+use Rattle.balance.proofs.Search.{Sound}
+
+by-test : {A : Type 0} (a b : Bool) (x y z : A) (P : A → Type 0) → (a ≡ true → P x) → (b ≡ true → P y) → P z → P (cond a x (cond b y z))
+by-test true b x y z P f g h = f refl
+by-test false true x y z P f g h = g refl
+by-test false false x y z P f g h = h
+
+pub sufficient-bounds : (p q : Bounds) → judged p q ≡ Sufficient → q .upper ≤ p .lower
+sufficient-bounds p q =
+    by-test (leb (q .upper) (p .lower)) (ltb (p .upper) (q .lower)) Sufficient Insufficient Undecided (λ x. x ≡ Sufficient → q .upper ≤ p .lower)
+    (λ t e. leb-true _ _ t)
+    (λ t e. let z : _≡_ {A = ℕ} 0 1 = cc in omega arith)
+    (λ e. let z : _≡_ {A = ℕ} 0 1 = cc in omega arith)
+
+pub insufficient-bounds : (p q : Bounds) → judged p q ≡ Insufficient → p .upper < q .lower
+insufficient-bounds p q =
+    by-test (leb (q .upper) (p .lower)) (ltb (p .upper) (q .lower)) Sufficient Insufficient Undecided (λ x. x ≡ Insufficient → p .upper < q .lower)
+    (λ t e. let z : _≡_ {A = ℕ} 0 1 = cc in omega arith)
+    (λ t e. ltb-true _ _ t)
+    (λ e. let z : _≡_ {A = ℕ} 0 1 = cc in omega arith)
+
+-- rung r of the line l, against the requirement q: its verdict, and the exact readings on the cutting m
+abbrev pub verdictOf : Line → Requirement → ℕ → Verdict
+verdictOf l q r = judged (provided l (thicknessAt r)) (enclosing q)
+
+abbrev pub MeetsOn : ℕ → Line → Requirement → ℕ → Type 0
+MeetsOn m l q r = Meets q (providedExactly (lowerSum m) l (thicknessAt r))
+
+abbrev pub MissesOn : ℕ → Line → Requirement → ℕ → Type 0
+MissesOn m l q r = Misses q (providedExactly (upperSum m) l (thicknessAt r))
+
+module _ (l : Line) (q : Requirement) (proper : Proper q) (m : ℕ) (hα : 1 ≤ l .coefficient) (hD : 1 ≤ l .diameter .0) (hm : 1 ≤ m) where
+  pub meets-stays : (i j : ℕ) → i ≤ j → MeetsOn m l q i → MissesOn m l q j → ⊥
+  meets-stays i j le meets misses =
+      let more = provided-grows l m hα hD hm {j = thicknessAt i} {k = thicknessAt j} (omega arith) in
+      never-both q _ (meets-more q _ _ (lower-provided-den l m hα hD hm (thicknessAt i)) more meets) misses
+
+  pub sound : Sound (verdictOf l q) (MeetsOn m l q) (MissesOn m l q)
+  sound =
+      record {
+        meets = λ r e. meets-more q _ _ (omega arith) (provided-below l m hα hD hm (thicknessAt r)) (upper-meets q proper (sufficient-bounds _ _ e));
+        misses = λ r e. misses-less q _ _ (upper-provided-den l m hα hD hm (thicknessAt r)) (provided-above l m hα hD hm (thicknessAt r)) (lower-misses q proper (insufficient-bounds _ _ e));
+        apart = λ r. meets-stays r r (le-refl r)
+      }

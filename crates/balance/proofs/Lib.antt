@@ -1,0 +1,4 @@
+pub mod Requirements
+pub mod Enclosure
+pub mod Search
+pub mod Judgement

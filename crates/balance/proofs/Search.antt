@@ -1,0 +1,61 @@
+-- The first rung that does not miss, as the exact equation sees it.
+-- Assumes nothing.
+use mathlib.Core.Path.{_≡_, refl}
+use mathlib.Core.Bool.{true, false}
+use mathlib.Core.Logic.{_⊎_, inl, inr, ⊎-elim, _↔_}
+use Prim.Native.Nat.{ℕ, zero, suc, _-_, _≤_, _<_}
+use native.Mathlib.Omega.{arith}
+use Rattle.roots.proofs.Least.{least-within, least-before, least-found}
+use Rattle.quadrature.specs.Ladder.{rungs}
+use Rattle.balance.specs.declared.verdict.Verdict.{Verdict}
+use Rattle.balance.specs.declared.verdict.Verdict.the-variants.{Sufficient, Insufficient, Undecided}
+use Rattle.balance.specs.Verdict.{stands, firstStanding}
+
+insufficient : {x : Verdict} → stands x ≡ false → x ≡ Insufficient
+insufficient {x} = elim x as (λ x. stands x ≡ false → x ≡ Insufficient) [ Sufficient ↦ λ e. (cc) | Insufficient ↦ λ e. refl | Undecided ↦ λ e. (cc) ]
+
+-- every rung below the first that does not miss misses; and that one does not
+pub misses-before : (v : ℕ → Verdict) (r : ℕ) → r < firstStanding v → v r ≡ Insufficient
+unfolding firstStanding
+misses-before v r lt = insufficient (least-before (λ r. stands (v r)) rungs r lt)
+
+-- What the verdicts v say of an exact reading, M that a rung meets and X that it misses: a rung judged sufficient meets, one judged
+-- insufficient misses, and none does both.
+pub record Sound (v : ℕ → Verdict) (M X : ℕ → Type 0) : Type 0 where
+  pub meets : (r : ℕ) → v r ≡ Sufficient → M r
+  pub misses : (r : ℕ) → v r ≡ Insufficient → X r
+  pub apart : (r : ℕ) → M r → X r → ⊥
+
+-- r meets, and the rung below it, if there is one, misses
+abbrev pub Least : (M X : ℕ → Type 0) → ℕ → Type 0
+Least M X r = M r × ((r ≡ 0) ⊎ X (r - 1))
+
+previous : (X : ℕ → Type 0) (r : ℕ) → ((i : ℕ) → i < r → X i) → (r ≡ 0) ⊎ X (r - 1)
+previous X zero below = inl refl
+previous X (suc n) below = inr (below (suc n - 1) (omega arith))
+
+module _ (v : ℕ → Verdict) (M X : ℕ → Type 0) (sound : Sound v M X) (enough : v (firstStanding v) ≡ Sufficient) where
+  pub found-least : Least M X (firstStanding v)
+  found-least = (sound .meets _ enough, previous X _ (λ i lt. sound .misses i (misses-before v i lt)))
+
+  not-before : (r : ℕ) → M r → r < firstStanding v → ⊥
+  not-before r m lt = sound .apart r m (sound .misses r (misses-before v r lt))
+
+  -- up to the first rung that does not miss, no other is such a rung
+  pub least-up-to : (r : ℕ) → r ≤ firstStanding v → (firstStanding v ≡ r) ↔ Least M X r
+  least-up-to r le =
+      (λ e. rw e at found-least, λ (h : Least M X r). let up : ¬ (r < firstStanding v) = not-before r (h .0) in omega arith)
+
+  -- nor above it, where no rung above one that meets misses
+  pub least-anywhere : ((i j : ℕ) → i ≤ j → M i → X j → ⊥) → (r : ℕ) → (firstStanding v ≡ r) ↔ Least M X r
+  least-anywhere grows r = (λ e. rw e at found-least, only)
+    where
+      not-after : (r ≡ 0) ⊎ X (r - 1) → ¬ (firstStanding v < r)
+      not-after (inl e) lt = omega arith
+      not-after (inr x) lt = grows _ (r - 1) (omega arith) (sound .meets _ enough) x
+
+      only : Least M X r → firstStanding v ≡ r
+      only h =
+          let up : ¬ (r < firstStanding v) = not-before r (h .0) in
+          let down = not-after (h .1) in
+          omega arith

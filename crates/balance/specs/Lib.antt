@@ -1,0 +1,6 @@
+pub mod Line
+pub mod Ranges
+pub mod Provided
+pub mod Required
+pub mod Verdict
+pub mod Exact

@@ -1,0 +1,17 @@
+-- The shape of a line.
+-- Assumes nothing.
+use Prim.Native.Nat.{ℕ}
+use mathlib.Core.Bool.{cond}
+use lib.Dec.{leb}
+use Rattle.balance.specs.declared.line.Line.{Line}
+use Rattle.balance.specs.declared.line.Shape.{Shape}
+use Rattle.balance.specs.declared.line.Shape.the-variants.{Cylinder, Flat}
+
+-- 01, "Ladder and figures": "D up to 10,000 is a cylinder, above that a flat wall (000, 5.1.1)."
+abbrev pub shapeOf : Line → Shape
+shapeOf l = cond (leb (l .diameter .0) 10_000) Cylinder Flat
+
+-- what stands before L: "2L" on a cylinder, "L" on a flat wall
+abbrev pub sides : Shape → ℕ
+sides Cylinder = 2
+sides Flat = 1

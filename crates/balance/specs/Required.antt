@@ -1,0 +1,38 @@
+-- What a goal requires, the paper's need, in nanometres. 01, "Ladder and figures".
+-- Assumes nothing.
+use Prim.Native.Nat.{ℕ, _*_, _^_}
+use Rattle.fractions.specs.declared.Bounds.{Bounds}
+use Rattle.fractions.specs.Fraction.{Fraction, _over_}
+use Rattle.fractions.specs.Rounding.{rounded}
+use Rattle.roots.specs.Root.{rootBounds}
+use Rattle.balance.specs.declared.line.Line.{Line}
+use Rattle.balance.specs.declared.goal.Costs.{Costs}
+use Rattle.balance.specs.declared.goal.Goal.{Goal}
+use Rattle.balance.specs.declared.goal.Goal.the-variants.{Economy, Loss, Surface}
+use Rattle.balance.specs.declared.line.Shape.{Shape}
+use Rattle.balance.specs.declared.line.Shape.the-variants.{Cylinder, Flat}
+use Rattle.balance.specs.Line.{shapeOf, sides}
+
+-- a fraction, or the square root of one
+pub data Requirement : Type 0 where
+  ratio root : Fraction → Requirement
+
+-- "coefficients 3.795×10⁻³ and 1.897×10⁻³ as printed, squared"
+abbrev pub coefficientSquared : Shape → ℕ
+coefficientSquared Cylinder = 14_402_025_000
+coefficientSquared Flat = 3_598_609_000
+
+-- What a goal requires of a line, Δ being the temperature difference.
+-- "economy: the square root of 14,402,025,000 × fLτΔ / (PS) on a cylinder, of 3,598,609,000 × fLτΔ / (PS) on a flat wall"
+-- "loss: 2LΔ × 10⁵ / aim, flat LΔ × 10⁵ / aim"
+-- "surface: 2LΔ × 10⁷ / (αs), flat half of that"
+unfoldable pub requirement : Line → ℕ → Goal → Requirement
+requirement l Δ (Economy c) =
+    root ((coefficientSquared (shapeOf l) * (c .heat * l .conductivity * c .hours * Δ)) over (c .insulation * c .share))
+requirement l Δ (Loss aim) = ratio ((sides (shapeOf l) * l .conductivity * Δ * 10 ^ 5) over aim)
+requirement l Δ (Surface s) = ratio ((sides (shapeOf l) * l .conductivity * Δ * 10 ^ 7) over (l .coefficient * s))
+
+-- "Low need is the largest whole number not above it; high need is the least not below it."
+unfoldable pub enclosing : Requirement → Bounds
+enclosing (ratio p) = rounded p
+enclosing (root p) = rootBounds p

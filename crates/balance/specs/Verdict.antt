@@ -1,0 +1,26 @@
+-- The verdict on a thickness. 01, "Ladder and figures".
+-- Assumes nothing.
+use Prim.Native.Nat.{ℕ}
+use mathlib.Core.Bool.{Bool, true, false, cond}
+use lib.Dec.{leb, ltb}
+use Rattle.fractions.specs.declared.Bounds.{Bounds}
+use Rattle.quadrature.specs.Ladder.{rungs}
+use Rattle.roots.specs.Least.{least}
+use Rattle.balance.specs.declared.verdict.Verdict.{Verdict}
+use Rattle.balance.specs.declared.verdict.Verdict.the-variants.{Sufficient, Insufficient, Undecided}
+
+-- "A rung meets if under-have is at or above high need. It misses if over-have is below low need. Otherwise it is open."
+abbrev pub judged : Bounds → Bounds → Verdict
+judged provided required =
+    cond (leb (required .upper) (provided .lower)) Sufficient
+    (cond (ltb (provided .upper) (required .lower)) Insufficient Undecided)
+
+-- does a rung not miss?
+abbrev pub stands : Verdict → Bool
+stands Sufficient = true
+stands Insufficient = false
+stands Undecided = true
+
+-- "The first rung that doesn't miss is the thickness if it meets": that rung's index, or the number of rungs where all miss
+unfoldable pub firstStanding : (ℕ → Verdict) → ℕ
+firstStanding v = least (λ r. stands (v r)) rungs
