@@ -60,7 +60,7 @@ module _ (l : Line) (q : Requirement) (proper : Proper q) (m : ℕ) (hα : 1 ≤
   pub sound : Sound (verdictOf l q) (MeetsOn m l q) (MissesOn m l q)
   sound =
       record {
-        meets = λ r e. meets-more q _ _ (omega arith) (provided-below l m hα hD hm (thicknessAt r)) (upper-meets q proper (sufficient-bounds _ _ e));
-        misses = λ r e. misses-less q _ _ (upper-provided-den l m hα hD hm (thicknessAt r)) (provided-above l m hα hD hm (thicknessAt r)) (lower-misses q proper (insufficient-bounds _ _ e));
-        apart = λ r. meets-stays r r (le-refl r)
+        meets = λ r e. meets-more q _ _ (omega arith) (provided-below l m hα hD hm (thicknessAt r)) (upper-meets q proper (sufficient-bounds (provided l (thicknessAt r)) (enclosing q) e));
+        misses = λ r e. misses-less q _ _ (upper-provided-den l m hα hD hm (thicknessAt r)) (provided-above l m hα hD hm (thicknessAt r)) (lower-misses q proper (insufficient-bounds (provided l (thicknessAt r)) (enclosing q) e));
+        apart = λ r. meets-stays r r (le-refl r);
       }

@@ -2,3 +2,4 @@ pub mod Requirements
 pub mod Enclosure
 pub mod Search
 pub mod Judgement
+mod Sizes

@@ -26,25 +26,22 @@ abbrev pub figured : (ℕ → ℕ → ℕ) → ℕ → ℕ → Fraction
 figured log D E = log D E over 10 ^ 7
 
 -- "Under-have uses the under-log and rounds each quotient down. Over-have uses the over-log and rounds each up."
-unfoldable pub insulationBounds : Line → ℕ → Bounds
-insulationBounds l k =
-    record { lower = floor (insulation (figured lowerLog) (shapeOf l) (l .diameter .0) k); upper = ceiling (insulation (figured upperLog) (shapeOf l) (l .diameter .0) k) }
+unfoldable pub insulationBounds : Shape → ℕ → ℕ → Bounds
+insulationBounds s D k =
+    record { lower = floor (insulation (figured lowerLog) s D k); upper = ceiling (insulation (figured upperLog) s D k) }
 
 unfoldable pub filmBounds : Line → Bounds
 filmBounds l = rounded (film l)
 
 unfoldable pub provided : Line → ℕ → Bounds
 provided l k =
-    record {
-      lower = insulationBounds l k .lower + filmBounds l .lower;
-      upper = insulationBounds l k .upper + filmBounds l .upper;
-    }
+    let first = insulationBounds (shapeOf l) (l .diameter .0) k in
+    record { lower = first .lower + filmBounds l .lower; upper = first .upper + filmBounds l .upper }
 
--- what of a line is the same at every thickness; a flat wall has no logarithm
+-- what of a line is the same at every thickness: the logarithm from 10.0 mm to the pipe, of which a flat wall has none, and the film
+abbrev pub innerLog : Shape → ℕ → Bounds
+innerLog Cylinder D = logBounds 100 D
+innerLog Flat D = record { lower = 0; upper = 0 }
+
 unfoldable pub provision : Line → Provision
-provision l =
-    record {
-      line = l;
-      inner = elim (shapeOf l) [ Cylinder ↦ logBounds 100 (l .diameter .0) | Flat ↦ record { lower = 0; upper = 0 } ];
-      film = filmBounds l;
-    }
+provision l = record { line = l; inner = innerLog (shapeOf l) (l .diameter .0); film = filmBounds l }

@@ -1,9 +1,10 @@
 // What a goal requires.
 ghost use mathlib.Core.Path.{_≡_};
-ghost use Prim.Native.Nat.{_≤_};
+ghost use Prim.Native.Nat.{_*_, _≤_, _<_};
 ghost use Rattle.balance.specs.declared.goal.Goal.the-variants.{Economy};
+ghost use Rattle.balance.specs.Line.{shapeOf, sides};
 ghost use Rattle.balance.specs.Ranges.{LineInRange, CostsInRange, GoalInRange};
-ghost use Rattle.balance.specs.Required.{requirement, enclosing};
+ghost use Rattle.balance.specs.Required.{coefficientSquared, requirement, enclosing};
 use crate::Line;
 use crate::Shape;
 use fractions::Bounds;
@@ -32,23 +33,42 @@ pub fn required(line: Line, difference: u64, goal: Goal) -> Bounds
     requires { ⌜ LineInRange line × (difference ≤ 7_000) × GoalInRange goal ⌝ }
     ensures { λ r. ⌜ r ≡ enclosing (requirement line difference goal) ⌝ }
 {
-    let heat = line.shape().sides() * line.conductivity * difference;
     match goal {
         Goal::Economy(costs) => economy(line, difference, costs),
-        Goal::Loss(aim) => quotient(heat * 100_000, aim),
-        Goal::Surface(rise) => quotient(heat * 10_000_000, line.coefficient * rise),
+        Goal::Loss(aim) => quotient(conduction(line, difference) * 100_000, aim),
+        Goal::Surface(rise) => quotient(
+            conduction(line, difference) * 10_000_000,
+            line.coefficient * rise,
+        ),
     }
 }
 
-// The printed coefficients' squares are 1,000 times the squares of 3795 and 1897.
+// 2LΔ, and on a flat wall LΔ.
+fn conduction(line: Line, difference: u64) -> u64
+    requires { ⌜ LineInRange line × (difference ≤ 7_000) ⌝ }
+    ensures { λ r. ⌜ (r ≡ sides (shapeOf line) * line .conductivity * difference) × (r ≤ 28_000_000) ⌝ }
+{
+    line.sided_conductivity() * difference
+}
+
 fn economy(line: Line, difference: u64, costs: Costs) -> Bounds
     requires { ⌜ LineInRange line × (difference ≤ 7_000) × CostsInRange costs ⌝ }
     ensures { λ r. ⌜ r ≡ enclosing (requirement line difference (Economy costs)) ⌝ }
 {
-    let heat = 1000 * (costs.heat * line.conductivity * costs.hours * difference);
-    let outlay = costs.insulation * costs.share;
-    match line.shape() {
-        Shape::Cylinder => root(3795, heat, outlay),
-        Shape::Flat => root(1897, heat, outlay),
+    let saving = 1000 * (costs.heat * line.conductivity * costs.hours * difference);
+    root(
+        coefficient(line.shape()),
+        saving,
+        costs.insulation * costs.share,
+    )
+}
+
+// The printed coefficient in units of 10⁻⁶: the equation's factor is 1,000 times its square.
+fn coefficient(shape: Shape) -> u64
+    ensures { λ r. ⌜ (r * r * 1000 ≡ coefficientSquared shape) × (0 < r) × (r < 4096) ⌝ }
+{
+    match shape {
+        Shape::Cylinder => 3795,
+        Shape::Flat => 1897,
     }
 }

@@ -1,23 +1,13 @@
 // The insulated line, and its shape.
 ghost use mathlib.Core.Path.{_≡_};
+ghost use Prim.Native.Nat.{_*_, _≤_};
 ghost use Rattle.balance.specs.Line.{shapeOf, sides};
+ghost use Rattle.balance.specs.Ranges.{LineInRange};
 use quadrature::Diameter;
 
 pub enum Shape {
     Cylinder,
     Flat,
-}
-
-impl Shape {
-    // What stands before L in the shape's equations.
-    pub fn sides(self) -> u64
-        ensures { λ r. ⌜ r ≡ sides self ⌝ }
-    {
-        match self {
-            Shape::Cylinder => 2,
-            Shape::Flat => 1,
-        }
-    }
 }
 
 // D, L and α: the diameter, the insulation's conductivity in 0.0001 W/(m·K) and the surface coefficient in 0.01 W/(m²·K).
@@ -35,6 +25,17 @@ impl Line {
             Shape::Cylinder
         } else {
             Shape::Flat
+        }
+    }
+
+    // 2L, and on a flat wall L.
+    pub fn sided_conductivity(self) -> u64
+        requires { ⌜ LineInRange self ⌝ }
+        ensures { λ r. ⌜ (r ≡ sides (shapeOf self) * self .conductivity) × (r ≤ 4_000) ⌝ }
+    {
+        match self.shape() {
+            Shape::Cylinder => 2 * self.conductivity,
+            Shape::Flat => self.conductivity,
         }
     }
 }

@@ -1,17 +1,21 @@
 // What a thickness provides.
 ghost use mathlib.Core.Path.{_≡_};
-ghost use Prim.Native.Nat.{_≤_};
+ghost use Prim.Native.Nat.{ℕ, _^_, _≤_};
 ghost use Rattle.balance.specs.Ranges.{LineInRange};
-ghost use Rattle.balance.specs.Provided.{insulationBounds, provision, provided};
+ghost use Rattle.balance.specs.declared.line.Shape.the-variants.{Cylinder, Flat};
+ghost use Rattle.balance.specs.Line.{shapeOf};
+ghost use Rattle.balance.specs.Provided.{insulationBounds, filmBounds, provided, innerLog, provision};
+ghost use Rattle.quadrature.specs.Figures.{logBounds};
 use crate::Line;
 use crate::Shape;
 use fractions::Bounds;
 use fractions::quotient;
 use logarithm::log_beyond;
 use logarithm::log_from_10mm;
+use quadrature::Diameter;
 use quadrature::Thickness;
 
-// A line with the figures that are the same at every thickness: its logarithm from 10.0 mm, which a flat wall has none of, and its film.
+// A line with the figures that are the same at every thickness: its logarithm from 10.0 mm, and its surface film.
 pub struct Provision {
     pub line: Line,
     pub inner: Bounds,
@@ -23,22 +27,10 @@ impl Provision {
         requires { ⌜ LineInRange line ⌝ }
         ensures { λ r. ⌜ r ≡ provision line ⌝ }
     {
-        let shape = line.shape();
-        let film = quotient(
-            shape.sides() * line.conductivity * 10_000_000,
-            line.coefficient,
-        );
-        match shape {
-            Shape::Cylinder => Provision {
-                line,
-                inner: log_from_10mm(line.diameter),
-                film,
-            },
-            Shape::Flat => Provision {
-                line,
-                inner: Bounds { lower: 0, upper: 0 },
-                film,
-            },
+        Provision {
+            line,
+            inner: inner_log(line),
+            film: film(line),
         }
     }
 
@@ -47,35 +39,65 @@ impl Provision {
         requires { ⌜ LineInRange (self .line) × (self ≡ provision (self .line)) × (k .0 ≤ 300) ⌝ }
         ensures { λ r. ⌜ r ≡ provided (self .line) (k .0) ⌝ }
     {
-        let insulation = self.insulation(k);
-        let film = self.film;
+        let insulation = insulation(self, k);
         Bounds {
-            lower: insulation.lower + film.lower,
-            upper: insulation.upper + film.upper,
+            lower: insulation.lower + self.film.lower,
+            upper: insulation.upper + self.film.upper,
         }
     }
+}
 
-    // The insulation's part.
-    fn insulation(self, k: Thickness) -> Bounds
-        requires { ⌜ LineInRange (self .line) × (self ≡ provision (self .line)) × (k .0 ≤ 300) ⌝ }
-        ensures { λ r. ⌜ r ≡ insulationBounds (self .line) (k .0) ⌝ }
-    {
-        match self.line.shape() {
-            Shape::Cylinder => {
-                let e = self.line.diameter.outer(k);
-                let log = log_beyond(self.inner, self.line.diameter, e);
-                Bounds {
-                    lower: e.0 * log.lower / 10_000_000,
-                    upper: quotient(e.0 * log.upper, 10_000_000).upper,
-                }
-            }
-            Shape::Flat => {
-                let nanometres = k.0 * 1_000_000;
-                Bounds {
-                    lower: nanometres,
-                    upper: nanometres,
-                }
-            }
-        }
+// The logarithm from 10.0 mm to the pipe; a flat wall has none.
+fn inner_log(line: Line) -> Bounds
+    requires { ⌜ LineInRange line ⌝ }
+    ensures { λ r. ⌜ r ≡ innerLog (shapeOf line) (line .diameter .0) ⌝ }
+{
+    match line.shape() {
+        Shape::Cylinder => log_from_10mm(line.diameter),
+        Shape::Flat => Bounds { lower: 0, upper: 0 },
+    }
+}
+
+// What the surface film provides.
+fn film(line: Line) -> Bounds
+    requires { ⌜ LineInRange line ⌝ }
+    ensures { λ r. ⌜ r ≡ filmBounds line ⌝ }
+{
+    quotient(line.sided_conductivity() * 10_000_000, line.coefficient)
+}
+
+// What the insulation provides.
+fn insulation(p: Provision, k: Thickness) -> Bounds
+    requires { ⌜ LineInRange (p .line) × (p ≡ provision (p .line)) × (k .0 ≤ 300) ⌝ }
+    ensures { λ r. ⌜ (r ≡ insulationBounds (shapeOf (p .line)) (p .line .diameter .0) (k .0)) × (r .lower ≤ 2 ^ 62) × (r .upper ≤ 2 ^ 62) ⌝ }
+{
+    match p.line.shape() {
+        Shape::Cylinder => wound(p.inner, p.line.diameter, k),
+        Shape::Flat => laid(k),
+    }
+}
+
+// What insulation of thickness k provides around a pipe of diameter d, to which the logarithm from 10.0 mm is `inner`.
+fn wound(inner: Bounds, d: Diameter, k: Thickness) -> Bounds
+    requires { ⌜ (inner ≡ logBounds 100 (d .0)) × (100 ≤ d .0) × (d .0 ≤ 10_000) × (k .0 ≤ 300) ⌝ }
+    ensures { λ r. ⌜ (r ≡ insulationBounds Cylinder (d .0) (k .0)) × (r .lower ≤ 2 ^ 62) × (r .upper ≤ 2 ^ 62) ⌝ }
+{
+    let e = d.outer(k);
+    let log = log_beyond(inner, d, e);
+    Bounds {
+        lower: e.0 * log.lower / 10_000_000,
+        upper: quotient(e.0 * log.upper, 10_000_000).upper,
+    }
+}
+
+// What it provides on a flat wall, whatever its diameter.
+fn laid(k: Thickness) -> Bounds
+    requires { ⌜ k .0 ≤ 300 ⌝ }
+    ensures { λ r. ⌜ ((D : ℕ) → r ≡ insulationBounds Flat D (k .0)) × (r .lower ≤ 2 ^ 62) × (r .upper ≤ 2 ^ 62) ⌝ }
+{
+    let nanometres = k.0 * 1_000_000;
+    Bounds {
+        lower: nanometres,
+        upper: nanometres,
     }
 }

@@ -1,0 +1,65 @@
+-- The figures fit 64 bits.
+-- Assumes nothing.
+use mathlib.Core.Path.{_≡_, refl}
+use mathlib.Core.Bool.{Bool, true, false, cond}
+use Prim.Native.Nat.{ℕ, _+_, _-_, _*_, _^_, _≤_, _<_}
+use native.Mathlib.Nat.{mul-le-mul, mul-pos, div-le-self}
+use native.Mathlib.Omega.{arith}
+use borrow.Author.Tests.{leb-true}
+use Rattle.quadrature.specs.Sums.{total}
+use Rattle.quadrature.specs.Units.{outerDiameter}
+use Rattle.logarithm.proofs.Steps.{Small, log-small}
+use Rattle.balance.specs.declared.line.Line.{Line}
+use Rattle.balance.specs.declared.line.Shape.{Shape}
+use Rattle.balance.specs.declared.line.Shape.the-variants.{Cylinder, Flat}
+use Rattle.balance.specs.declared.goal.Costs.{Costs}
+use Rattle.balance.specs.Line.{shapeOf, sides}
+use Rattle.balance.specs.Provided.{film, filmBounds}
+use Rattle.balance.specs.Ranges.{LineInRange, CostsInRange}
+
+pub cylinder-diameter : (l : Line) → shapeOf l ≡ Cylinder → l .diameter .0 ≤ 10_000
+cylinder-diameter l e = leb-true _ _ (go _ e)
+  where
+    go : (b : Bool) → cond b Cylinder Flat ≡ Cylinder → b ≡ true
+    go true e = refl
+    go false e = cc
+
+-- the outer diameter times the logarithm
+pub wound-small : (f : ℕ → ℕ) → Small f → {D e k log : ℕ} → 100 ≤ D → D ≤ 10_000 → k ≤ 300 → e ≡ outerDiameter D k → log ≡ total f D (e - D) → e * log ≤ 16_000 * (16_000 * 10 ^ 10)
+wound-small f small {D} {e} {k} {log} from to le outer is =
+    let wide : e ≤ 16_000 = omega arith in
+    let long : log ≤ 16_000 * 10 ^ 10 = omega (arith, log-small f small {d = D} e from) in
+    mul-le-mul wide long
+
+-- the products of the economy goal
+pub record EconomySizes (l : Line) (Δ : ℕ) (c : Costs) : Type 0 where
+  pub two : c .heat * l .conductivity ≤ 65_535 * 2_000
+  pub three : c .heat * l .conductivity * c .hours ≤ 65_535 * 2_000 * 8_784
+  pub four : c .heat * l .conductivity * c .hours * Δ ≤ 65_535 * 2_000 * 8_784 * 7_000
+  pub outlay : c .insulation * c .share ≤ 65_535 * 10_000
+  pub some-outlay : 0 < c .insulation * c .share
+
+pub economy-sizes : (l : Line) (Δ : ℕ) (c : Costs) → LineInRange l → Δ ≤ 7_000 → CostsInRange c → EconomySizes l Δ c
+economy-sizes l Δ c line le costs =
+    let first : c .heat * l .conductivity ≤ 65_535 * 2_000 = mul-le-mul (costs .heat) (line .conductivity) in
+    let second : c .heat * l .conductivity * c .hours ≤ 65_535 * 2_000 * 8_784 = mul-le-mul first (costs .hours) in
+    record {
+      two = first;
+      three = second;
+      four = mul-le-mul second le;
+      outlay = mul-le-mul (costs .insulation) (costs .share);
+      some-outlay = mul-pos (costs .some-insulation) (costs .some-share);
+    }
+
+-- the film
+sides-le : (s : Shape) → sides s ≤ 2
+sides-le Cylinder = omega arith
+sides-le Flat = omega arith
+
+pub film-small : (l : Line) → LineInRange l → (filmBounds l .lower ≤ 2 ^ 62) × (filmBounds l .upper ≤ 2 ^ 62)
+unfolding film filmBounds
+film-small l range =
+    let num = sides (shapeOf l) * l .conductivity * 10 ^ 7 in
+    let α = l .coefficient in
+    let small = mul-le-mul (sides-le (shapeOf l)) (range .conductivity) in
+    (omega (arith, small, div-le-self num α), omega (arith, small, div-le-self (num + (α - 1)) α))

@@ -1,0 +1,89 @@
+-- `balance::required` meets its contract, goal by goal.
+-- Assumes nothing.
+use mathlib.Core.Path.{ap, _∙_}
+use Prim.Native.Nat.{ℕ, _*_, _^_}
+use native.Mathlib.Nat.{mul-pos, mul-le-mul}
+use native.Mathlib.Omega.{arith}
+use Rattle.fractions.specs.Fraction.{_over_}
+use Rattle.fractions.specs.Rounding.{rounded}
+use Rattle.balance.specs.Ranges.{GoalInRange}
+use Rattle.balance.specs.Required.{requirement, enclosing}
+use borrow.Author.Needs.{needs}
+use Rattle.balance.proofs.goal.required.Statement.{statement}
+use Rattle.balance.proofs.goal.required.Tie as tie
+
+enum-known-goal : tie.Need-enum-known-goal
+enum-known-goal c = search needs
+
+economy-requires : tie.Need-economy-requires
+economy-requires c κs =
+    let pre = c .before .before .before .pre in
+    (pre .0, pre .1, rw (c .before .goal .given .1) at (pre .2))
+
+enum-known-goal-2 : tie.Need-enum-known-goal-2
+enum-known-goal-2 c = search needs
+
+conduction-requires : tie.Need-conduction-requires
+conduction-requires c κs = search needs
+
+mul-quotient : tie.Need-mul-quotient
+mul-quotient c = search needs
+
+quotient-requires : tie.Need-quotient-requires
+quotient-requires c κs = rw (c .before .before .goal2 .given .1) at (c .before .before .before .before .pre .2)
+
+enum-known-goal-3 : tie.Need-enum-known-goal-3
+enum-known-goal-3 c = search needs
+
+conduction-requires-2 : tie.Need-conduction-requires-2
+conduction-requires-2 c κs = search needs
+
+mul-quotient-2 : tie.Need-mul-quotient-2
+mul-quotient-2 c = search needs
+
+mul-quotient-3 : tie.Need-mul-quotient-3
+mul-quotient-3 c =
+    let pre = c .before .before .before .before .before .pre in
+    let range = rw (c .before .before .before .goal3 .given .1) at (pre .2) in
+    omega (arith, mul-le-mul (pre .0 .coefficient) (range .1))
+
+quotient-requires-2 : tie.Need-quotient-requires-2
+quotient-requires-2 c κs =
+    let pre = c .before .before .before .before .before .pre in
+    let range = rw (c .before .before .before .goal3 .given .1) at (pre .2) in
+    mul-pos (pre .0 .some-coefficient) (range .0)
+
+returns : tie.Need-returns
+returns c = rw (c .before .before .goal .given .1) (c .economy .ensures)
+
+returns-2 : tie.Need-returns-2
+unfolding requirement enclosing
+returns-2 c =
+    let goal = c .before .before .before .goal2 .given in
+    rw (goal .1) (c .quotient .ensures ∙ ap (λ (x : ℕ). rounded ((x * 10 ^ 5) over goal .0 .0)) (c .before .conduction .ensures .0))
+
+returns-3 : tie.Need-returns-3
+unfolding requirement enclosing
+returns-3 c =
+    let goal = c .before .before .before .before .goal3 .given in
+    let line = c .before .before .before .before .before .before .args .line in
+    rw (goal .1) (c .quotient2 .ensures ∙ ap (λ (x : ℕ). rounded ((x * 10 ^ 7) over (line .coefficient * goal .0 .0))) (c .before .before .conduction2 .ensures .0))
+
+pub required-spec : {M : Type 1} → statement M
+required-spec =
+    tie.close
+    (tie.spec
+    enum-known-goal
+    economy-requires
+    enum-known-goal-2
+    conduction-requires
+    mul-quotient
+    quotient-requires
+    enum-known-goal-3
+    conduction-requires-2
+    mul-quotient-2
+    mul-quotient-3
+    quotient-requires-2
+    returns
+    returns-2
+    returns-3)

@@ -1,0 +1,38 @@
+-- `balance::Provision::at` meets its contract.
+-- Assumes nothing.
+use mathlib.Core.Path.{_≡_}
+use Prim.Native.Nat.{_+_}
+use native.Mathlib.Omega.{arith}
+use Rattle.fractions.proofs.Sides.{lower-of, upper-of, both-of}
+use Rattle.balance.specs.Provided.{filmBounds, provision, provided}
+use Rattle.balance.proofs.Sizes.{film-small}
+use borrow.Author.Needs.{needs}
+use Rattle.balance.proofs.provision.Provision.at.Statement.{statement}
+use Rattle.balance.proofs.provision.Provision.at.Tie as tie
+
+insulation-requires : tie.Need-insulation-requires
+insulation-requires c κs = search needs
+
+film-is : (c : tie.Start) → c .args .self .film ≡ filmBounds (c .args .self .line)
+unfolding provision
+film-is c = λ j. c .pre .1 j .film
+
+add-t4 : tie.Need-add-t4
+add-t4 c =
+    let start = c .before .before .before in
+    omega (arith, c .before .before .insulation .ensures .1, lower-of (film-is start), film-small (start .args .self .line) (start .pre .0) .0)
+
+add-t5 : tie.Need-add-t5
+add-t5 c =
+    let start = c .before .before .before .before .before in
+    omega (arith, c .before .before .before .before .insulation .ensures .2, upper-of (film-is start), film-small (start .args .self .line) (start .pre .0) .1)
+
+returns : tie.Need-returns
+unfolding provided
+returns c =
+    let start = c .before .before .before .before .before in
+    let insulation = c .before .before .before .before .insulation .ensures .0 in
+    λ j. record { lower = insulation j .lower + film-is start j .lower; upper = insulation j .upper + film-is start j .upper }
+
+pub at-spec : {M : Type 1} → statement M
+at-spec = tie.close (tie.spec insulation-requires add-t4 add-t5 returns)

@@ -1,0 +1,49 @@
+-- What insulation provides meets its contract, on a pipe and on a flat wall.
+-- Assumes nothing.
+use mathlib.Core.Path.{_≡_, sym, _∙_}
+use native.Mathlib.Omega.{arith}
+use Rattle.balance.specs.declared.line.Shape.the-variants.{Cylinder, Flat}
+use Rattle.balance.specs.Line.{shapeOf}
+use Rattle.balance.specs.Provided.{innerLog, provision}
+use Rattle.balance.proofs.Sizes.{cylinder-diameter}
+use borrow.Author.Needs.{needs}
+use Rattle.balance.proofs.provision.insulation.Statement.{statement}
+use Rattle.balance.proofs.provision.insulation.Tie as tie
+
+shape-requires : tie.Need-shape-requires
+shape-requires c κs = search needs
+
+enum-told : tie.Need-enum-told
+enum-told c = search needs
+
+wound-requires : tie.Need-wound-requires
+unfolding provision
+wound-requires c κs =
+    let start = c .before .before .before in
+    let p = start .args .p in
+    let is : shapeOf (p .line) ≡ Cylinder = sym (c .before .before .shape .ensures) ∙ c .enum-told .given .1 in
+    let inner : p .inner ≡ innerLog (shapeOf (p .line)) (p .line .diameter .0) = λ j. start .pre .1 j .inner in
+    (rw is at inner, search needs, cylinder-diameter (p .line) is, search needs)
+
+enum-told-2 : tie.Need-enum-told-2
+enum-told-2 c = search needs
+
+laid-requires : tie.Need-laid-requires
+laid-requires c κs = search needs
+
+returns : tie.Need-returns
+returns c =
+    let is : shapeOf (c .before .before .before .before .args .p .line) ≡ Cylinder = sym (c .before .before .before .shape .ensures) ∙ c .before .enum-told .given .1 in
+    rw is (c .wound .ensures)
+
+returns-2 : tie.Need-returns-2
+returns-2 c =
+    let p = c .before .before .before .before .args .p in
+    let is : shapeOf (p .line) ≡ Flat = sym (c .before .before .before .shape .ensures) ∙ c .before .enum-told2 .given .1 in
+    let got = c .laid .ensures in
+    rw is (got .0 (p .line .diameter .0), got .1, got .2)
+
+pub insulation-spec : {M : Type 1} → statement M
+insulation-spec =
+    tie.close
+    (tie.spec shape-requires enum-told wound-requires enum-told-2 laid-requires returns returns-2)

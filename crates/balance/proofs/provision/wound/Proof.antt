@@ -1,0 +1,62 @@
+-- What insulation around a pipe provides meets its contract.
+-- Assumes nothing.
+use mathlib.Core.Path.{ap, _∙_}
+use Prim.Native.Nat.{ℕ, _+_, _-_, _*_, _/_, _^_, _≤_}
+use native.Mathlib.Nat.{div-le-self}
+use native.Mathlib.Omega.{arith}
+use Rattle.fractions.specs.Fraction.{_over_}
+use Rattle.fractions.specs.Rounding.{ceiling}
+use Rattle.fractions.proofs.Sides.{lower-of, upper-of, both-of}
+use Rattle.quadrature.specs.Figures.{lowerStep, upperStep, lowerLog, upperLog}
+use Rattle.logarithm.proofs.Steps.{lower-small, upper-small}
+use Rattle.balance.specs.Provided.{insulation, insulationBounds}
+use Rattle.balance.proofs.Sizes.{wound-small}
+use borrow.Author.Needs.{needs}
+use Rattle.balance.proofs.provision.wound.Statement.{statement}
+use Rattle.balance.proofs.provision.wound.Tie as tie
+
+outer-requires : tie.Need-outer-requires
+outer-requires c κs = search needs
+
+log-beyond-requires : tie.Need-log-beyond-requires
+log-beyond-requires c κs = search needs
+
+-- each side of the outer diameter times the logarithm, after the two calls
+lower-small-product : (c : tie.After-log-beyond) → c .before .outer .result .0 * c .log-beyond .result .lower ≤ 16_000 * (16_000 * 10 ^ 10)
+lower-small-product c =
+    let pre = c .before .before .pre in
+    wound-small lowerStep lower-small (pre .1) (pre .2) (pre .3) (c .before .outer .ensures) (lower-of (c .log-beyond .ensures))
+
+upper-small-product : (c : tie.After-log-beyond) → c .before .outer .result .0 * c .log-beyond .result .upper ≤ 16_000 * (16_000 * 10 ^ 10)
+upper-small-product c =
+    let pre = c .before .before .pre in
+    wound-small upperStep upper-small (pre .1) (pre .2) (pre .3) (c .before .outer .ensures) (upper-of (c .log-beyond .ensures))
+
+mul-t6 : tie.Need-mul-t6
+mul-t6 c = omega (arith, lower-small-product (c .before .before))
+
+mul-quotient : tie.Need-mul-quotient
+mul-quotient c = omega (arith, upper-small-product (c .before .before .before .before))
+
+quotient-requires : tie.Need-quotient-requires
+quotient-requires c κs = search needs
+
+returns : tie.Need-returns
+unfolding insulation insulationBounds
+returns c =
+    let at = c .before .before .before .before .before in
+    let D = at .before .before .args .d .0 in
+    let e = at .before .outer .result .0 in
+    let outer = at .before .outer .ensures in
+    let log = at .log-beyond .ensures in (
+      both-of
+          (ap (λ (t : ℕ). e * t / 10 ^ 7) (lower-of log) ∙ ap (λ (x : ℕ). x * lowerLog D x / 10 ^ 7) outer)
+          (upper-of (c .quotient .ensures) ∙ ap (λ (t : ℕ). ceiling ((e * t) over 10 ^ 7)) (upper-of log) ∙ ap (λ (x : ℕ). ceiling ((x * upperLog D x) over 10 ^ 7)) outer),
+      omega (arith, lower-small-product at, div-le-self (e * at .log-beyond .result .lower) (10 ^ 7)),
+      omega (arith, upper-small-product at, upper-of (c .quotient .ensures), div-le-self (e * at .log-beyond .result .upper + (10 ^ 7 - 1)) (10 ^ 7)),
+    )
+
+pub wound-spec : {M : Type 1} → statement M
+wound-spec =
+    tie.close
+    (tie.spec outer-requires log-beyond-requires mul-t6 mul-quotient quotient-requires returns)
