@@ -12,11 +12,10 @@ use Rattle.fractions.specs.Fraction.{_over_}
 use Rattle.quadrature.specs.Ladder.{thicknessAt}
 use Rattle.quadrature.specs.Cuttings.{lowerSum, upperSum}
 use Rattle.balance.specs.declared.line.Line.{Line}
-use Rattle.balance.specs.declared.verdict.Verdict.{Verdict}
 use Rattle.balance.specs.declared.verdict.Verdict.the-variants.{Sufficient, Insufficient, Undecided}
 use Rattle.balance.specs.Provided.{provided}
 use Rattle.balance.specs.Required.{Requirement, enclosing}
-use Rattle.balance.specs.Verdict.{judged}
+use Rattle.balance.specs.Verdict.{judged, verdictOf}
 use Rattle.balance.specs.Exact.{providedExactly, Meets, Misses}
 use Rattle.balance.proofs.Requirements.{Proper, meets-more, misses-less, never-both, upper-meets, lower-misses}
 use Rattle.balance.proofs.Enclosure.{lower-provided-den, upper-provided-den, provided-below, provided-above, provided-grows}
@@ -41,10 +40,7 @@ insufficient-bounds p q =
     (λ t e. ltb-true _ _ t)
     (λ e. let z : _≡_ {A = ℕ} 0 1 = cc in omega arith)
 
--- rung r of the line l, against the requirement q: its verdict, and the exact readings on the cutting m
-abbrev pub verdictOf : Line → Requirement → ℕ → Verdict
-verdictOf l q r = judged (provided l (thicknessAt r)) (enclosing q)
-
+-- the exact readings of the rung r of the line l, against the requirement q, on the cutting m
 abbrev pub MeetsOn : ℕ → Line → Requirement → ℕ → Type 0
 MeetsOn m l q r = Meets q (providedExactly (lowerSum m) l (thicknessAt r))
 

@@ -7,14 +7,13 @@ use Rattle.fractions.specs.Fraction.{Fraction, _over_, _≼_}
 use Rattle.fractions.proofs.Order.{≼-trans}
 use Rattle.fractions.proofs.Rounding.{floor-below, ceiling-above}
 use Rattle.roots.proofs.Roots.{floor-root-below, ceiling-root-above}
-use Rattle.balance.specs.Required.{Requirement, enclosing}
+use Rattle.balance.specs.declared.line.Line.{Line}
+use Rattle.balance.specs.declared.goal.Goal.{Goal}
+use Rattle.balance.specs.declared.goal.Goal.the-variants.{Economy, Loss, Surface}
+use Rattle.balance.specs.Ranges.{LineInRange, GoalInRange}
+use Rattle.balance.specs.Required.{Requirement, requirement, enclosing}
 use Rattle.balance.specs.Required.Requirement.{ratio, root}
 use Rattle.balance.specs.Exact.{square, Meets, Misses}
-
--- the number under the root, or the number itself
-pub radicand : Requirement → Fraction
-radicand (ratio p) = p
-radicand (root p) = p
 
 -- a requirement whose denominator is not 0
 abbrev pub Proper : Requirement → Type 0
@@ -48,3 +47,9 @@ pub lower-misses : (q : Requirement) {v : ℕ} → Proper q → v < enclosing q 
 unfolding Misses enclosing
 lower-misses (ratio p) pos lt = omega (arith, floor-below p, mul-le-mul-right (p .den) lt)
 lower-misses (root p) pos lt = omega (arith, floor-root-below p pos, mul-le-mul-right (p .den) (mul-le-mul lt lt))
+
+pub in-range-proper : (l : Line) (Δ : ℕ) (g : Goal) → LineInRange l → GoalInRange g → Proper (requirement l Δ g)
+unfolding requirement
+in-range-proper l Δ (Economy c) line costs = mul-pos (costs .some-insulation) (costs .some-share)
+in-range-proper l Δ (Loss aim) line some = some
+in-range-proper l Δ (Surface rise) line range = mul-pos (line .some-coefficient) (range .0)

@@ -1,7 +1,7 @@
 -- The first rung that does not miss, as the exact equation sees it.
 -- Assumes nothing.
 use mathlib.Core.Path.{_≡_, refl}
-use mathlib.Core.Bool.{true, false}
+use mathlib.Core.Bool.{true, false, false≢true}
 use mathlib.Core.Logic.{_⊎_, inl, inr, ⊎-elim, _↔_}
 use Prim.Native.Nat.{ℕ, zero, suc, _-_, _≤_, _<_}
 use native.Mathlib.Omega.{arith}
@@ -11,13 +11,39 @@ use Rattle.balance.specs.declared.verdict.Verdict.{Verdict}
 use Rattle.balance.specs.declared.verdict.Verdict.the-variants.{Sufficient, Insufficient, Undecided}
 use Rattle.balance.specs.Verdict.{stands, firstStanding}
 
-insufficient : {x : Verdict} → stands x ≡ false → x ≡ Insufficient
-insufficient {x} = elim x as (λ x. stands x ≡ false → x ≡ Insufficient) [ Sufficient ↦ λ e. (cc) | Insufficient ↦ λ e. refl | Undecided ↦ λ e. (cc) ]
+-- A rung stands where it does not miss.
+fallen : (x : Verdict) → stands x ≡ false → x ≡ Insufficient
+fallen Sufficient e = cc
+fallen Insufficient e = refl
+fallen Undecided e = cc
 
--- every rung below the first that does not miss misses; and that one does not
+misses-not-stands : {x : Verdict} → x ≡ Insufficient → stands x ≡ true → ⊥
+misses-not-stands e t = let z : stands Insufficient ≡ true = rw e at t in false≢true z
+
+pub first-within : (v : ℕ → Verdict) → firstStanding v ≤ rungs
+unfolding firstStanding
+first-within v = least-within (λ r. stands (v r)) rungs
+
+-- Every rung below the first that stands misses, and the first does not.
 pub misses-before : (v : ℕ → Verdict) (r : ℕ) → r < firstStanding v → v r ≡ Insufficient
 unfolding firstStanding
-misses-before v r lt = insufficient (least-before (λ r. stands (v r)) rungs r lt)
+misses-before v r lt = fallen (v r) (least-before (λ r. stands (v r)) rungs r lt)
+
+pub first-stands : (v : ℕ → Verdict) → firstStanding v < rungs → stands (v (firstStanding v)) ≡ true
+unfolding firstStanding
+first-stands v = least-found (λ r. stands (v r)) rungs
+
+-- No other rung is like that; and where all miss, there is none.
+pub first-is : (v : ℕ → Verdict) (r : ℕ) → r < rungs → stands (v r) ≡ true → ((i : ℕ) → i < r → v i ≡ Insufficient) → firstStanding v ≡ r
+first-is v r lt stands-r below =
+    let up : ¬ (firstStanding v < r) = λ h. misses-not-stands (below (firstStanding v) h) (first-stands v (omega arith)) in
+    let down : ¬ (r < firstStanding v) = λ h. misses-not-stands (misses-before v r h) stands-r in
+    omega arith
+
+pub first-none : (v : ℕ → Verdict) → ((r : ℕ) → r < rungs → v r ≡ Insufficient) → firstStanding v ≡ rungs
+first-none v all =
+    let no-rung : ¬ (firstStanding v < rungs) = λ h. misses-not-stands (all (firstStanding v) h) (first-stands v h) in
+    omega (arith, first-within v)
 
 -- What the verdicts v say of an exact reading, M that a rung meets and X that it misses: a rung judged sufficient meets, one judged
 -- insufficient misses, and none does both.

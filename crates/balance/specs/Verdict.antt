@@ -4,16 +4,23 @@ use Prim.Native.Nat.{ℕ}
 use mathlib.Core.Bool.{Bool, true, false, cond}
 use lib.Dec.{leb, ltb}
 use Rattle.fractions.specs.declared.Bounds.{Bounds}
-use Rattle.quadrature.specs.Ladder.{rungs}
+use Rattle.quadrature.specs.Ladder.{rungs, thicknessAt}
 use Rattle.roots.specs.Least.{least}
+use Rattle.balance.specs.declared.line.Line.{Line}
 use Rattle.balance.specs.declared.verdict.Verdict.{Verdict}
 use Rattle.balance.specs.declared.verdict.Verdict.the-variants.{Sufficient, Insufficient, Undecided}
+use Rattle.balance.specs.Provided.{provided}
+use Rattle.balance.specs.Required.{Requirement, enclosing}
 
 -- "A rung meets if under-have is at or above high need. It misses if over-have is below low need. Otherwise it is open."
 abbrev pub judged : Bounds → Bounds → Verdict
 judged provided required =
     cond (leb (required .upper) (provided .lower)) Sufficient
     (cond (ltb (provided .upper) (required .lower)) Insufficient Undecided)
+
+-- the verdict on the rung with index r
+abbrev pub verdictOf : Line → Requirement → ℕ → Verdict
+verdictOf l q r = judged (provided l (thicknessAt r)) (enclosing q)
 
 -- does a rung not miss?
 abbrev pub stands : Verdict → Bool

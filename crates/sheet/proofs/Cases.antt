@@ -1,0 +1,59 @@
+-- The first case that holds.
+-- Assumes nothing.
+use mathlib.Core.Path.{_≡_, refl}
+use mathlib.Core.Bool.{Bool, true, false, not, _&&_, _||_, true≢false, false≢true}
+use mathlib.Core.List.{List, [], _∷_, _++_}
+use Prim.Native.Nat.{ℕ, _≤_}
+use lib.Dec.{eqb, ltb}
+use borrow.Author.Tests.{eq-eqb, ltb-false}
+use Rattle.sheet.specs.Refusals.{Case, case, first, Field, outside, anyOutside}
+use Rattle.sheet.specs.Demands.{Fail}
+
+pub and-both : (a b : Bool) → a && b ≡ true → (a ≡ true) × (b ≡ true)
+and-both true b e = (refl, e)
+and-both false b e = absurd (false≢true e)
+
+-- no case of the list has the number n
+unfoldable pub absent : ℕ → List Case → Bool
+absent n [] = true
+absent n (c ∷ cs) = not (eqb (c .number) n) && absent n cs
+
+-- Where n is the first number, and is that of no case in front, none in front holds.
+pub first-later : (n : ℕ) (cs ds : List Case) → absent n cs ≡ true → first (cs ++ ds) ≡ n → Fail cs × (first ds ≡ n)
+unfolding absent first Fail
+first-later n [] ds away = λ e. (tt, e)
+first-later n (c ∷ cs) ds away = go (c .holds) refl (first-later n cs ds (and-both (not (eqb (c .number) n)) (absent n cs) away .1))
+  where
+    go :
+        (b : Bool) → c .holds ≡ b → (first (cs ++ ds) ≡ n → Fail cs × (first ds ≡ n)) →
+        (elim b as (λ _. ℕ) [ true ↦ c .number | false ↦ first (cs ++ ds) ]) ≡ n → Fail (c ∷ cs) × (first ds ≡ n)
+    go true h later e = let z : false ≡ true = rw (eq-eqb (c .number) n e) at away in absurd (false≢true z)
+    go false h later e = ((h, later e .0), later e .1)
+
+-- Where none in front holds, the first is behind.
+pub first-after : (cs ds : List Case) → Fail cs → first (cs ++ ds) ≡ first ds
+unfolding first Fail
+first-after [] ds f = refl
+first-after (c ∷ cs) ds f = rw (f .0) (first-after cs ds (f .1))
+
+-- A list of fields that are all inside their ranges, field by field.
+pub record Inside (f : Field) (fs : List Field) : Type 0 where
+  pub least : f .least ≤ f .value
+  pub most : f .value ≤ f .most
+  pub rest : anyOutside fs ≡ false
+
+pub or-false-both : (a b : Bool) → a || b ≡ false → (a ≡ false) × (b ≡ false)
+or-false-both true b e = absurd (true≢false e)
+or-false-both false b e = (refl, e)
+
+pub within : (f : Field) → outside f ≡ false → (f .least ≤ f .value) × (f .value ≤ f .most)
+within f e =
+    let ends = or-false-both (ltb (f .value) (f .least)) (ltb (f .most) (f .value)) e in
+    (ltb-false _ _ (ends .0), ltb-false _ _ (ends .1))
+
+pub inside : (f : Field) (fs : List Field) → anyOutside (f ∷ fs) ≡ false → Inside f fs
+unfolding anyOutside
+inside f fs e =
+    let parts = or-false-both (outside f) (anyOutside fs) e in
+    let ends = within f (parts .0) in
+    record { least = ends .0; most = ends .1; rest = parts .1 }

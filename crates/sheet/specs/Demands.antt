@@ -1,0 +1,47 @@
+-- What demands 2 and 3 of 00 say of a sheet.
+-- Assumes nothing.
+use Prim.Native.Nat.{ℕ, _-_, _≤_, _<_}
+use mathlib.Core.Path.{_≡_}
+use mathlib.Core.Bool.{false}
+use mathlib.Core.Logic.{_⊎_, _↔_}
+use mathlib.Core.List.{List, [], _∷_}
+use Rattle.quadrature.specs.Ladder.{rungs, thicknessAt}
+use Rattle.quadrature.specs.Cuttings.{lowerSum, upperSum}
+use Rattle.balance.specs.declared.verdict.Verdict.the-variants.{Insufficient, Undecided}
+use Rattle.balance.specs.Exact.{providedExactly, Meets, Misses}
+use Rattle.sheet.specs.Bytes.{number}
+use Rattle.sheet.specs.Sheet.{decoded, goalOf}
+use Rattle.sheet.specs.Search.{requires, verdictAt}
+use Rattle.sheet.specs.Answer.{answer}
+use Rattle.sheet.specs.Refusals.{Case, formal, refusal}
+
+-- no case of a list holds
+unfoldable pub Fail : List Case → Type 0
+Fail [] = Unit {0}
+Fail (c ∷ cs) = (c .holds ≡ false) × Fail cs
+
+-- Demand 2: "refusals 17 and 18 come in their stated cases only". Refusal 17: the cases 11 to 16 fail and all 31 rungs miss. Refusal 18: they
+-- fail, and some rung is open while every rung below it misses.
+pub record StatedCases (sheet : List ℕ) : Type 0 where
+  pub seventeen :
+      let s = decoded sheet in
+      (refusal sheet ≡ 17) ↔ (Fail (formal sheet) × ((r : ℕ) → r < rungs → verdictAt s (goalOf s) r ≡ Insufficient))
+  pub eighteen :
+      let s = decoded sheet in
+      (refusal sheet ≡ 18) ↔
+      (Fail (formal sheet) ×
+      ((r : ℕ) × (r < rungs) × (verdictAt s (goalOf s) r ≡ Undecided) × ((i : ℕ) → i < r → verdictAt s (goalOf s) i ≡ Insufficient)))
+
+-- Demand 3: "For every answered sheet, every cutting of the logarithm's area that the paper allows, however fine, and every rung of the
+-- ladder: that rung equals the thickness we give exactly when it meets the exact equation on that cutting's under-sum and the rung below
+-- it, if there is one, misses it on that cutting's over-sum." "The thickness is bytes 2–3 of the answer, and both rungs are judged by the
+-- sheet's own goal" (01, "Ladder and figures"). On a flat wall `providedExactly` reads no sum: "there the same holds with the exact
+-- equation alone judging both rungs".
+abbrev pub Demand3 : Type 0
+Demand3 =
+    (sheet : List ℕ) → refusal sheet ≡ 0 → (m : ℕ) → 1 ≤ m → (r : ℕ) → r < rungs →
+    let s = decoded sheet in
+    let need = requires s (goalOf s) in
+    (number (answer sheet) 2 2 ≡ thicknessAt r) ↔
+    (Meets need (providedExactly (lowerSum m) (s .line) (thicknessAt r)) ×
+    ((r ≡ 0) ⊎ Misses need (providedExactly (upperSum m) (s .line) (thicknessAt (r - 1)))))

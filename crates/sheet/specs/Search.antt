@@ -1,0 +1,21 @@
+-- The thickness. 01, "Ladder and figures".
+-- Assumes nothing.
+use Prim.Native.Nat.{ℕ}
+use Rattle.balance.specs.declared.goal.Goal.{Goal}
+use Rattle.balance.specs.declared.verdict.Verdict.{Verdict}
+use Rattle.balance.specs.Required.{Requirement, requirement}
+use Rattle.balance.specs.Verdict.{verdictOf, firstStanding}
+use Rattle.sheet.specs.declared.fields.Sheet.{Sheet}
+use Rattle.sheet.specs.Sheet.{difference, goalOf}
+
+-- what a goal requires of the sheet's line
+abbrev pub requires : Sheet → Goal → Requirement
+requires s goal = requirement (s .line) (difference s) goal
+
+-- the verdict on rung r against a goal
+abbrev pub verdictAt : Sheet → Goal → ℕ → Verdict
+verdictAt s goal r = verdictOf (s .line) (requires s goal) r
+
+-- "The first rung that doesn't miss is the thickness if it meets.": the index of that rung
+abbrev pub chosen : Sheet → ℕ
+chosen s = firstStanding (verdictAt s (goalOf s))

@@ -1,0 +1,65 @@
+// The fields of a sheet's 24 bytes.
+ghost use mathlib.Core.Path.{_≡_};
+ghost use Prim.Native.Nat.{_+_, _<_};
+ghost use lib.ListN.{length};
+ghost use Rattle.sheet.specs.Bytes.{number, offsetBinary};
+ghost use Rattle.sheet.specs.Sheet.{decoded};
+use balance::Costs;
+use balance::Line;
+use quadrature::Diameter;
+
+// The codes of goal and service, the line number, the insulated line, the temperatures t of the pipe and ta of the air, counted in
+// 0.1 °C from −3,276.8 °C, the costs, and the aim as it is written.
+pub struct Sheet {
+    pub goal: u64,
+    pub service: u64,
+    pub number: u64,
+    pub line: Line,
+    pub temperature: u64,
+    pub ambient: u64,
+    pub costs: Costs,
+    pub aim: u64,
+}
+
+impl Sheet {
+    pub fn decode(bytes: &[u8]) -> Sheet
+        requires { ⌜ length (now bytes) ≡ 24 ⌝ }
+        ensures { λ r. ⌜ r ≡ decoded (now (bytes .entry)) ⌝ }
+    {
+        Sheet {
+            goal: bytes[0] as u64,
+            service: bytes[1] as u64,
+            number: unsigned(bytes, 2),
+            line: Line {
+                diameter: Diameter(unsigned(bytes, 4)),
+                conductivity: unsigned(bytes, 10),
+                coefficient: unsigned(bytes, 12),
+            },
+            temperature: signed(bytes, 6),
+            ambient: signed(bytes, 8),
+            costs: Costs {
+                heat: unsigned(bytes, 14),
+                hours: unsigned(bytes, 16),
+                insulation: unsigned(bytes, 18),
+                share: unsigned(bytes, 20),
+            },
+            aim: unsigned(bytes, 22),
+        }
+    }
+}
+
+// The two bytes from place at on, big-endian.
+fn unsigned(bytes: &[u8], at: usize) -> u64
+    requires { ⌜ at + 1 < length (now bytes) ⌝ }
+    ensures { λ r. ⌜ r ≡ number (now (bytes .entry)) at 2 ⌝ }
+{
+    256 * (bytes[at] as u64) + bytes[at + 1] as u64
+}
+
+// The same as a signed number, counted from −32,768.
+fn signed(bytes: &[u8], at: usize) -> u64
+    requires { ⌜ at + 1 < length (now bytes) ⌝ }
+    ensures { λ r. ⌜ r ≡ offsetBinary (number (now (bytes .entry)) at 2) ⌝ }
+{
+    (unsigned(bytes, at) + 32_768) % 65_536
+}

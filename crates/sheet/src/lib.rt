@@ -1,0 +1,7 @@
+// A sheet: its fields and the limits that bear on it.
+mod fields;
+mod limits;
+
+pub use fields::Sheet;
+pub use limits::loss_limit;
+pub use limits::surface_limit;
