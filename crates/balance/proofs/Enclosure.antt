@@ -1,5 +1,6 @@
 -- What a thickness provides: the whole-number figures enclose it on every cutting, and it grows with the thickness.
 -- Assumes nothing.
+use mathlib.Core.Path.{_≡_}
 use Prim.Native.Nat.{ℕ, _+_, _*_, _^_, _≤_, _<_}
 use native.Mathlib.Nat.{le-refl, mul-pos, mul-le-mul, mul-le-mul-left, mul-le-mul-right}
 use native.Mathlib.Omega.{arith}
@@ -84,3 +85,8 @@ module _ (l : Line) (m : ℕ) (hα : 1 ≤ l .coefficient) (hD : 1 ≤ l .diamet
       let E = outerDiameter D k in
       let sums = ≼-trans (lowerSum m D (outerDiameter D j)) (lowerSum m D E) (upperSum m D E) (lower-den m D E) (sum-mono midpoint m D (omega arith)) (enclosed m D E hm hD .sums) in
       quotients-mono (summed (lowerSum m)) (summed (upperSum m)) le (omega (arith, mul-le-mul-right (10 ^ 5) sums))
+
+-- "Flat walls have no sum." (01, "Ladder and figures")
+pub flat-reads-no-sum : (f g : ℕ → ℕ → Fraction) (l : Line) (k : ℕ) → shapeOf l ≡ Flat → providedExactly f l k ≡ providedExactly g l k
+unfolding insulation providedExactly
+flat-reads-no-sum f g l k flat = rw flat

@@ -1,7 +1,7 @@
 -- Demands 2 and 3 of a sheet, as `specs/Demands.antt` states them.
 -- Assumes nothing.
 use mathlib.Core.Path.{_≡_, refl, sym, _∙_, ap}
-use mathlib.Core.Bool.{true, false}
+use mathlib.Core.Bool.{Bool, true, false}
 use mathlib.Core.List.{List, [], _∷_}
 use Prim.Native.Nat.{ℕ, _+_, _*_, _/_, _%_, _^_, _≤_, _<_}
 use native.Mathlib.Nat.{mod-eq-of-lt, div-add-mod'}
@@ -52,7 +52,7 @@ answered bytes h =
 two-bytes : (x : ℕ) → x < 65_536 → 256 * (x / 256 % 256) + x % 256 ≡ x
 two-bytes x lt =
     let high : x / 256 < 256 = omega arith in
-    rw mod-eq-of-lt (omega (arith, div-add-mod' x 256))
+    rw (mod-eq-of-lt high) (omega (arith, div-add-mod' x 256))
 
 pub answer-thickness : (s : Sheet) (r : ℕ) → number (answerOf s r) 2 2 ≡ thicknessAt r
 unfolding number answerOf bytesOf
@@ -70,3 +70,64 @@ demand-3 bytes h m hm r lt =
     let law = least-anywhere (verdictAt s (goalOf s)) (MeetsOn m (s .line) q) (MissesOn m (s .line) q) (sound (s .line) q proper m α D hm) (a .enough) (meets-stays (s .line) q proper m α D hm) r in
     let is = answer-thickness s (chosen s) in
     (λ e. law .0 (omega (arith, a .found)), λ e. is ∙ ap thicknessAt (law .1 e))
+
+-- The last two cases: 17 comes where the first of them holds, 18 where only the second does.
+seventeen-holds : (a b : Bool) → first (case 17 a ∷ case 18 b ∷ []) ≡ 17 → a ≡ true
+unfolding first
+seventeen-holds true b e = refl
+seventeen-holds false true e = absurd (omega arith)
+seventeen-holds false false e = absurd (omega arith)
+
+eighteen-holds : (a b : Bool) → first (case 17 a ∷ case 18 b ∷ []) ≡ 18 → (a ≡ false) × (b ≡ true)
+unfolding first
+eighteen-holds true b e = absurd (omega arith)
+eighteen-holds false true e = (refl, refl)
+eighteen-holds false false e = absurd (omega arith)
+
+undecided : (x : Verdict) → isUndecided x ≡ true → x ≡ Undecided
+undecided Sufficient e = cc
+undecided Insufficient e = cc
+undecided Undecided e = refl
+
+module _ (sheet : List ℕ) where
+  abbrev v : ℕ → Verdict
+  v = verdictAt (decoded sheet) (goalOf (decoded sheet))
+
+  abbrev c : ℕ
+  c = chosen (decoded sheet)
+
+  AllMiss : Type 0
+  AllMiss = (r : ℕ) → r < rungs → v r ≡ Insufficient
+
+  FirstOpen : Type 0
+  FirstOpen = (r : ℕ) × (r < rungs) × (v r ≡ Undecided) × ((i : ℕ) → i < r → v i ≡ Insufficient)
+
+  only-17 : refusal sheet ≡ 17 → Fail (formal sheet) × AllMiss
+  unfolding absent AllMiss
+  only-17 h =
+      let got = first-later 17 (formal sheet) (tried sheet) refl h in
+      let all : c ≡ rungs = eqb-true _ _ (seventeen-holds (eqb c rungs) (isUndecided (v c)) (got .1)) in
+      (got .0, λ r lt. misses-before v r (omega arith))
+
+  when-17 : Fail (formal sheet) × AllMiss → refusal sheet ≡ 17
+  unfolding first AllMiss
+  when-17 h = first-after (formal sheet) (tried sheet) (h .0) ∙ rw (eq-eqb c rungs (first-none v (h .1)))
+
+  only-18 : refusal sheet ≡ 18 → Fail (formal sheet) × FirstOpen
+  unfolding absent FirstOpen
+  only-18 h =
+      let got = first-later 18 (formal sheet) (tried sheet) refl h in
+      let holds = eighteen-holds (eqb c rungs) (isUndecided (v c)) (got .1) in
+      let some : ¬ (c ≡ rungs) = eqb-false _ _ (holds .0) in
+      (got .0, (c, omega (arith, first-within v), undecided (v c) (holds .1), misses-before v))
+
+  when-18 : Fail (formal sheet) × FirstOpen → refusal sheet ≡ 18
+  unfolding first FirstOpen
+  when-18 h =
+      let r = h .1 .0 in
+      let is : c ≡ r = first-is v r (h .1 .1) (ap stands (h .1 .2)) (h .1 .3) in
+      first-after (formal sheet) (tried sheet) (h .0) ∙ rw (is, ne-eqb r rungs (λ e. omega (arith, h .1 .1)), h .1 .2)
+
+pub stated-cases : (sheet : List ℕ) → StatedCases sheet
+unfolding AllMiss FirstOpen
+stated-cases sheet = record { seventeen = (only-17 sheet, when-17 sheet); eighteen = (only-18 sheet, when-18 sheet) }

@@ -1,3 +1,5 @@
 pub mod Cases
 pub mod Admitted
 pub mod Demands
+pub mod Worked
+pub mod Signed

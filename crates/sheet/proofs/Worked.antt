@@ -1,0 +1,56 @@
+-- The sheets worked by hand, by computation.
+-- Assumes nothing.
+use mathlib.Core.Path.{_≡_, refl, _∙_}
+use mathlib.Core.Bool.{true, false, and-false}
+use mathlib.Core.List.{List, _∷_}
+use Prim.Native.Nat.{ℕ}
+use native.Mathlib.Omega.{arith}
+use lib.Dec.{ltb}
+use lib.ListN.{take}
+use borrow.Author.Tests.{le-ltb}
+use Rattle.quadrature.specs.Sums.{summed}
+use Rattle.quadrature.specs.Figures.{lowerStep, upperStep}
+use Rattle.quadrature.proofs.Sums.{log-self}
+use Rattle.roots.specs.Least.{least}
+use Rattle.balance.specs.Provided.{insulation, film, insulationBounds, filmBounds, provided}
+use Rattle.balance.specs.Required.{requirement, enclosing}
+use Rattle.balance.specs.Verdict.{firstStanding}
+use Rattle.sheet.specs.declared.fields.Sheet.{Sheet}
+use Rattle.sheet.specs.Bytes.{number, bytesOf}
+use Rattle.sheet.specs.Sheet.{decoded, surfaceAim}
+use Rattle.sheet.specs.Limits.{highest, lossLimit}
+use Rattle.sheet.specs.Answer.{lossCheck, surfaceCheck, surfaceBound, answerOf}
+use Rattle.sheet.specs.Refusals.{case, anyOutside, aimRefused, first, formal, tried, refusal}
+use Rattle.sheet.specs.Demands.{Fail}
+use Rattle.sheet.specs.Worked.{Worked}
+use Rattle.sheet.proofs.Cases.{first-after}
+
+-- goal 3 with the aim at t
+aim-refused : (s : Sheet) → s .goal ≡ 3 → surfaceAim s ≡ s .temperature → aimRefused s ≡ true
+aim-refused s goal aim =
+    let below : ltb (surfaceAim s) (s .temperature) ≡ false = le-ltb (surfaceAim s) (s .temperature) (omega arith) in
+    rw (goal, below, and-false)
+
+aim-at-t : (sheet : List ℕ) → let s = decoded sheet in s .goal ≡ 3 → surfaceAim s ≡ s .temperature → Fail (take 5 (formal sheet)) → refusal sheet ≡ 16
+unfolding first
+aim-at-t sheet goal aim earlier =
+    let s = decoded sheet in
+    first-after (take 5 (formal sheet)) (case 16 (aimRefused s) ∷ tried sheet) earlier ∙ rw (aim-refused s goal aim)
+
+pub worked : Worked
+unfolding lowerStep upperStep least insulation film insulationBounds filmBounds provided requirement enclosing firstStanding number bytesOf decoded highest lossLimit lossCheck surfaceCheck surfaceBound answerOf anyOutside first
+worked =
+    record {
+      p1 = refl;
+      p2 = refl;
+      p3 = λ D. (log-self lowerStep D, log-self upperStep D);
+      p4 = (refl, refl, (refl, refl));
+      p5 = (refl, (refl, refl));
+      p6 = (refl, refl);
+      p7 = refl;
+      p8 = (refl, refl, refl);
+      p9 = (refl, aim-at-t);
+      p10 = refl;
+      p11 = refl;
+      p12 = (refl, refl);
+    }
