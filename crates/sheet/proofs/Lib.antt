@@ -3,3 +3,4 @@ pub mod Admitted
 pub mod Demands
 pub mod Worked
 pub mod Signed
+mod Rows

@@ -20,6 +20,10 @@ table =
     row 50 58 116 ∷ row 100 93 163 ∷ row 150 116 203 ∷ row 200 140 244 ∷ row 250 163 273 ∷ row 300 186 296 ∷ row 350 209 308 ∷
     row 400 227 314 ∷ row 450 244 0 ∷ row 500 262 0 ∷ row 550 279 0 ∷ row 600 296 0 ∷ row 650 314 0 ∷ []
 
+-- no row
+abbrev pub unprinted : Row
+unprinted = row 0 0 0
+
 -- "1 year-round, 2 seasonal"
 abbrev pub column : ℕ → Row → ℕ
 column service r = cond (eqb service 1) (r .yearRound) (r .seasonal)
@@ -31,7 +35,7 @@ highest t below (r ∷ higher) = elim (leb (zeroDegrees + 10 * r .temperature) t
 
 -- the limit in tenths of W/m², 0 where none is printed
 unfoldable pub lossLimit : ℕ → ℕ → ℕ
-lossLimit service t = 10 * column service (highest t (row 0 0 0) table)
+lossLimit service t = 10 * column service (highest t unprinted table)
 
 -- "Surface limit: 50.0 °C for ta up to 27.0, else ta + 25.0 (001, 3.0.5)."
 abbrev pub surfaceLimit : ℕ → ℕ

@@ -51,7 +51,7 @@ impl Sheet {
 // The two bytes from place at on, big-endian.
 fn unsigned(bytes: &[u8], at: usize) -> u64
     requires { ⌜ at + 1 < length (now bytes) ⌝ }
-    ensures { λ r. ⌜ r ≡ number (now (bytes .entry)) at 2 ⌝ }
+    ensures { λ r. ⌜ (r ≡ number (now (bytes .entry)) at 2) × (r < 65_536) ⌝ }
 {
     256 * (bytes[at] as u64) + bytes[at + 1] as u64
 }

@@ -1,10 +1,11 @@
 // The limits of heat loss and of surface temperature.
 ghost use mathlib.Core.Path.{_≡_};
-ghost use Prim.Native.Nat.{_≤_};
-ghost use Rattle.sheet.specs.Limits.{lossLimit, surfaceLimit};
+ghost use Prim.Native.Nat.{_≤_, _<_};
+ghost use lib.ListN.{getD};
+ghost use Rattle.sheet.specs.Limits.{table, unprinted, column, lossLimit, surfaceLimit};
 
 // The limits in W/m² at 50 °C, 100 °C and so on to 650 °C, year-round and seasonal; 0 where none is printed.
-const LIMITS: [[u64; 2]; 13] = [
+const LIMITS: [[u16; 2]; 13] = [
     [58, 116],
     [93, 163],
     [116, 203],
@@ -23,7 +24,7 @@ const LIMITS: [[u64; 2]; 13] = [
 // 0.0 °C.
 const ZERO: u64 = 32_768;
 
-// The limit of heat loss in 0.1 W/m² for a service and a pipe's temperature, or 0 where none is printed.
+// The limit of heat loss in 0.1 W/m² for a service and a pipe's temperature, counted from −3,276.8 °C, or 0 where none is printed.
 pub fn loss_limit(service: u64, temperature: u64) -> u64
     requires { ⌜ (1 ≤ service) × (service ≤ 2) × (temperature ≤ 39_268) ⌝ }
     ensures { λ r. ⌜ r ≡ lossLimit service temperature ⌝ }
@@ -32,8 +33,15 @@ pub fn loss_limit(service: u64, temperature: u64) -> u64
     if temperature < first {
         return 0;
     }
-    let row = (temperature - first) / 500;
-    10 * LIMITS[row as usize][(service - 1) as usize]
+    10 * printed((temperature - first) / 500, service)
+}
+
+// The limit that is printed in a row, the first being row 0, for a service.
+fn printed(row: u64, service: u64) -> u64
+    requires { ⌜ (row < 13) × (1 ≤ service) × (service ≤ 2) ⌝ }
+    ensures { λ r. ⌜ (r ≡ column service (getD table row unprinted)) × (r < 65_536) ⌝ }
+{
+    LIMITS[row as usize][(service - 1) as usize] as u64
 }
 
 // The limit of the surface's temperature where the air has the temperature ambient, both counted from −3,276.8 °C.

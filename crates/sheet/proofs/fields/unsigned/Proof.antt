@@ -1,40 +1,41 @@
+-- Two bytes, big-endian, meet their contract.
+-- Assumes nothing.
+use Prim.Native.Nat.{_+_}
+use native.Mathlib.Nat.{add-zero}
+use native.Mathlib.Omega.{arith}
+use Rattle.sheet.specs.Bytes.{number}
 use borrow.Author.Needs.{needs}
 use Rattle.sheet.proofs.fields.unsigned.Statement.{statement}
 use Rattle.sheet.proofs.fields.unsigned.Tie as tie
-use Rattle.sheet.proofs.fields.unsigned.Reads as reads
-use Rattle.sheet.proofs.fields.unsigned.Lts as lts
 
--- src/fields.rt:56:12
 shared-slice-read-result : tie.Need-shared-slice-read-result
 shared-slice-read-result c = search needs
 
--- src/fields.rt:56:12
 cast-result : tie.Need-cast-result
-cast-result c = ?
+cast-result c = omega (arith, c .shared-slice-known .given (c .before .args .at))
 
--- src/fields.rt:56:5
 mul-result : tie.Need-mul-result
-mul-result c = ?
+mul-result c = omega (arith, c .shared-slice-known .given (c .before .args .at))
 
--- src/fields.rt:56:38
 add-result : tie.Need-add-result
 add-result c = search needs
 
--- src/fields.rt:56:32
 shared-slice-read-result-2 : tie.Need-shared-slice-read-result-2
 shared-slice-read-result-2 c = search needs
 
--- src/fields.rt:56:32
 cast-result-2 : tie.Need-cast-result-2
-cast-result-2 c = ?
+cast-result-2 c = omega (arith, c .shared-slice-known2 .given (c .before .before .args .at + 1))
 
--- src/fields.rt:56:5
 add-result-2 : tie.Need-add-result-2
-add-result-2 c = ?
+add-result-2 c =
+    let at = c .before .before .args .at in
+    omega (arith, c .before .shared-slice-known .given at, c .shared-slice-known2 .given (at + 1))
 
--- src/fields.rt:52:1
 returns : tie.Need-returns
-returns c = ?
+unfolding number
+returns c =
+    let at = c .before .before .args .at in
+    (rw add-zero (omega arith), omega (arith, c .before .shared-slice-known .given at, c .shared-slice-known2 .given (at + 1)))
 
 pub unsigned-spec : {M : Type 1} → statement M
 unsigned-spec =
