@@ -9,40 +9,40 @@ use Rattle.roots.proofs.Least.{least-within, least-before, least-found}
 use Rattle.quadrature.specs.Ladder.{rungs}
 use Rattle.balance.specs.declared.verdict.Verdict.{Verdict}
 use Rattle.balance.specs.declared.verdict.Verdict.the-variants.{Sufficient, Insufficient, Undecided}
-use Rattle.balance.specs.Verdict.{stands, firstStanding}
+use Rattle.balance.specs.Verdict.{notInsufficient, firstNotInsufficient}
 
--- A rung stands where it does not miss.
-fallen : (x : Verdict) → stands x ≡ false → x ≡ Insufficient
-fallen Sufficient e = cc
-fallen Insufficient e = refl
-fallen Undecided e = cc
+-- A verdict that is not insufficient.
+insufficient-unless : (x : Verdict) → notInsufficient x ≡ false → x ≡ Insufficient
+insufficient-unless Sufficient e = cc
+insufficient-unless Insufficient e = refl
+insufficient-unless Undecided e = cc
 
-misses-not-stands : {x : Verdict} → x ≡ Insufficient → stands x ≡ true → ⊥
-misses-not-stands e t = let z : stands Insufficient ≡ true = rw e at t in false≢true z
+not-both : {x : Verdict} → x ≡ Insufficient → notInsufficient x ≡ true → ⊥
+not-both e t = let z : notInsufficient Insufficient ≡ true = rw e at t in false≢true z
 
-pub first-within : (v : ℕ → Verdict) → firstStanding v ≤ rungs
-unfolding firstStanding
-first-within v = least-within (λ r. stands (v r)) rungs
+pub first-within : (v : ℕ → Verdict) → firstNotInsufficient v ≤ rungs
+unfolding firstNotInsufficient
+first-within v = least-within (λ r. notInsufficient (v r)) rungs
 
--- Every rung below the first that stands misses, and the first does not.
-pub misses-before : (v : ℕ → Verdict) (r : ℕ) → r < firstStanding v → v r ≡ Insufficient
-unfolding firstStanding
-misses-before v r lt = fallen (v r) (least-before (λ r. stands (v r)) rungs r lt)
+-- Every rung below the first that does not miss misses, and the first does not.
+pub misses-before : (v : ℕ → Verdict) (r : ℕ) → r < firstNotInsufficient v → v r ≡ Insufficient
+unfolding firstNotInsufficient
+misses-before v r lt = insufficient-unless (v r) (least-before (λ r. notInsufficient (v r)) rungs r lt)
 
-pub first-stands : (v : ℕ → Verdict) → firstStanding v < rungs → stands (v (firstStanding v)) ≡ true
-unfolding firstStanding
-first-stands v = least-found (λ r. stands (v r)) rungs
+pub first-not-insufficient : (v : ℕ → Verdict) → firstNotInsufficient v < rungs → notInsufficient (v (firstNotInsufficient v)) ≡ true
+unfolding firstNotInsufficient
+first-not-insufficient v = least-found (λ r. notInsufficient (v r)) rungs
 
 -- No other rung is like that; and where all miss, there is none.
-pub first-is : (v : ℕ → Verdict) (r : ℕ) → r < rungs → stands (v r) ≡ true → ((i : ℕ) → i < r → v i ≡ Insufficient) → firstStanding v ≡ r
-first-is v r lt stands-r below =
-    let up : ¬ (firstStanding v < r) = λ h. misses-not-stands (below (firstStanding v) h) (first-stands v (omega arith)) in
-    let down : ¬ (r < firstStanding v) = λ h. misses-not-stands (misses-before v r h) stands-r in
+pub first-is : (v : ℕ → Verdict) (r : ℕ) → r < rungs → notInsufficient (v r) ≡ true → ((i : ℕ) → i < r → v i ≡ Insufficient) → firstNotInsufficient v ≡ r
+first-is v r lt here below =
+    let up : ¬ (firstNotInsufficient v < r) = λ h. not-both (below (firstNotInsufficient v) h) (first-not-insufficient v (omega arith)) in
+    let down : ¬ (r < firstNotInsufficient v) = λ h. not-both (misses-before v r h) here in
     omega arith
 
-pub first-none : (v : ℕ → Verdict) → ((r : ℕ) → r < rungs → v r ≡ Insufficient) → firstStanding v ≡ rungs
+pub first-none : (v : ℕ → Verdict) → ((r : ℕ) → r < rungs → v r ≡ Insufficient) → firstNotInsufficient v ≡ rungs
 first-none v all =
-    let no-rung : ¬ (firstStanding v < rungs) = λ h. misses-not-stands (all (firstStanding v) h) (first-stands v h) in
+    let no-rung : ¬ (firstNotInsufficient v < rungs) = λ h. not-both (all (firstNotInsufficient v) h) (first-not-insufficient v h) in
     omega (arith, first-within v)
 
 -- What the verdicts v say of an exact reading, M that a rung meets and X that it misses: a rung judged sufficient meets, one judged
@@ -60,28 +60,28 @@ previous : (X : ℕ → Type 0) (r : ℕ) → ((i : ℕ) → i < r → X i) → 
 previous X zero below = inl refl
 previous X (suc n) below = inr (below (suc n - 1) (omega arith))
 
-module _ (v : ℕ → Verdict) (M X : ℕ → Type 0) (sound : Sound v M X) (enough : v (firstStanding v) ≡ Sufficient) where
-  pub found-least : Least M X (firstStanding v)
+module _ (v : ℕ → Verdict) (M X : ℕ → Type 0) (sound : Sound v M X) (enough : v (firstNotInsufficient v) ≡ Sufficient) where
+  pub found-least : Least M X (firstNotInsufficient v)
   found-least = (sound .meets _ enough, previous X _ (λ i lt. sound .misses i (misses-before v i lt)))
 
-  not-before : (r : ℕ) → M r → r < firstStanding v → ⊥
+  not-before : (r : ℕ) → M r → r < firstNotInsufficient v → ⊥
   not-before r m lt = sound .apart r m (sound .misses r (misses-before v r lt))
 
   -- up to the first rung that does not miss, no other is such a rung
-  pub least-up-to : (r : ℕ) → r ≤ firstStanding v → (firstStanding v ≡ r) ↔ Least M X r
+  pub least-up-to : (r : ℕ) → r ≤ firstNotInsufficient v → (firstNotInsufficient v ≡ r) ↔ Least M X r
   least-up-to r le =
-      (λ e. rw e at found-least, λ (h : Least M X r). let up : ¬ (r < firstStanding v) = not-before r (h .0) in omega arith)
+      (λ e. rw e at found-least, λ (h : Least M X r). let up : ¬ (r < firstNotInsufficient v) = not-before r (h .0) in omega arith)
 
   -- nor above it, where no rung above one that meets misses
-  pub least-anywhere : ((i j : ℕ) → i ≤ j → M i → X j → ⊥) → (r : ℕ) → (firstStanding v ≡ r) ↔ Least M X r
+  pub least-anywhere : ((i j : ℕ) → i ≤ j → M i → X j → ⊥) → (r : ℕ) → (firstNotInsufficient v ≡ r) ↔ Least M X r
   least-anywhere grows r = (λ e. rw e at found-least, only)
     where
-      not-after : (r ≡ 0) ⊎ X (r - 1) → ¬ (firstStanding v < r)
+      not-after : (r ≡ 0) ⊎ X (r - 1) → ¬ (firstNotInsufficient v < r)
       not-after (inl e) lt = omega arith
       not-after (inr x) lt = grows _ (r - 1) (omega arith) (sound .meets _ enough) x
 
-      only : Least M X r → firstStanding v ≡ r
+      only : Least M X r → firstNotInsufficient v ≡ r
       only h =
-          let up : ¬ (r < firstStanding v) = not-before r (h .0) in
+          let up : ¬ (r < firstNotInsufficient v) = not-before r (h .0) in
           let down = not-after (h .1) in
           omega arith

@@ -13,7 +13,7 @@ use Rattle.balance.specs.declared.line.Line.{Line}
 use Rattle.balance.specs.declared.line.Shape.{Shape}
 use Rattle.balance.specs.declared.line.Shape.the-variants.{Cylinder, Flat}
 use Rattle.balance.specs.declared.goal.Costs.{Costs}
-use Rattle.balance.specs.Line.{shapeOf, sides}
+use Rattle.balance.specs.Line.{shapeOf, multiplier}
 use Rattle.balance.specs.Provided.{film, filmBounds}
 use Rattle.balance.specs.Ranges.{LineInRange, CostsInRange}
 
@@ -25,8 +25,8 @@ cylinder-diameter l e = leb-true _ _ (go _ e)
     go false e = cc
 
 -- the outer diameter times the logarithm
-pub wound-small : (f : ℕ → ℕ) → Small f → {D e k log : ℕ} → 100 ≤ D → D ≤ 10_000 → k ≤ 300 → e ≡ outerDiameter D k → log ≡ total f D (e - D) → e * log ≤ 16_000 * (16_000 * 10 ^ 10)
-wound-small f small {D} {e} {k} {log} from to le outer is =
+pub cylinder-small : (f : ℕ → ℕ) → Small f → {D e k log : ℕ} → 100 ≤ D → D ≤ 10_000 → k ≤ 300 → e ≡ outerDiameter D k → log ≡ total f D (e - D) → e * log ≤ 16_000 * (16_000 * 10 ^ 10)
+cylinder-small f small {D} {e} {k} {log} from to le outer is =
     let wide : e ≤ 16_000 = omega arith in
     let long : log ≤ 16_000 * 10 ^ 10 = omega (arith, log-small f small {d = D} e from) in
     mul-le-mul wide long
@@ -52,14 +52,14 @@ economy-sizes l Δ c line le costs =
     }
 
 -- the film
-sides-le : (s : Shape) → sides s ≤ 2
-sides-le Cylinder = omega arith
-sides-le Flat = omega arith
+multiplier-le : (s : Shape) → multiplier s ≤ 2
+multiplier-le Cylinder = omega arith
+multiplier-le Flat = omega arith
 
 pub film-small : (l : Line) → LineInRange l → (filmBounds l .lower ≤ 2 ^ 62) × (filmBounds l .upper ≤ 2 ^ 62)
 unfolding film filmBounds
 film-small l range =
-    let num = sides (shapeOf l) * l .conductivity * 10 ^ 7 in
+    let num = multiplier (shapeOf l) * l .conductivity * 10 ^ 7 in
     let α = l .coefficient in
-    let small = mul-le-mul (sides-le (shapeOf l)) (range .conductivity) in
+    let small = mul-le-mul (multiplier-le (shapeOf l)) (range .conductivity) in
     (omega (arith, small, div-le-self num α), omega (arith, small, div-le-self (num + (α - 1)) α))

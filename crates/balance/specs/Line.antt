@@ -12,6 +12,6 @@ abbrev pub shapeOf : Line → Shape
 shapeOf l = cond (leb (l .diameter .0) 10_000) Cylinder Flat
 
 -- what stands before L: "2L" on a cylinder, "L" on a flat wall
-abbrev pub sides : Shape → ℕ
-sides Cylinder = 2
-sides Flat = 1
+abbrev pub multiplier : Shape → ℕ
+multiplier Cylinder = 2
+multiplier Flat = 1

@@ -10,7 +10,7 @@ use Rattle.balance.specs.declared.line.Line.{Line}
 use Rattle.balance.specs.declared.provision.Provision.{Provision}
 use Rattle.balance.specs.declared.line.Shape.{Shape}
 use Rattle.balance.specs.declared.line.Shape.the-variants.{Cylinder, Flat}
-use Rattle.balance.specs.Line.{shapeOf, sides}
+use Rattle.balance.specs.Line.{shapeOf, multiplier}
 
 -- The first quotient, of diameter D and thickness k: "cylinder: E × log / 10⁷", "flat: k × 10⁶". Of the logarithm it takes log / 10⁷.
 unfoldable pub insulation : (ℕ → ℕ → Fraction) → Shape → ℕ → ℕ → Fraction
@@ -19,7 +19,7 @@ insulation log Flat D k = (k * 10 ^ 6) over 1
 
 -- The second quotient: "plus 2L × 10⁷ / α", "plus L × 10⁷ / α".
 unfoldable pub film : Line → Fraction
-film l = (sides (shapeOf l) * l .conductivity * 10 ^ 7) over l .coefficient
+film l = (multiplier (shapeOf l) * l .conductivity * 10 ^ 7) over l .coefficient
 
 -- log / 10⁷ of a logarithm in whole-number figures
 abbrev pub figured : (ℕ → ℕ → ℕ) → ℕ → ℕ → Fraction

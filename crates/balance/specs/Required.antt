@@ -11,7 +11,7 @@ use Rattle.balance.specs.declared.goal.Goal.{Goal}
 use Rattle.balance.specs.declared.goal.Goal.the-variants.{Economy, Loss, Surface}
 use Rattle.balance.specs.declared.line.Shape.{Shape}
 use Rattle.balance.specs.declared.line.Shape.the-variants.{Cylinder, Flat}
-use Rattle.balance.specs.Line.{shapeOf, sides}
+use Rattle.balance.specs.Line.{shapeOf, multiplier}
 
 -- a fraction, or the square root of one
 pub data Requirement : Type 0 where
@@ -29,8 +29,8 @@ coefficientSquared Flat = 3_598_609_000
 unfoldable pub requirement : Line → ℕ → Goal → Requirement
 requirement l Δ (Economy c) =
     root ((coefficientSquared (shapeOf l) * (c .heat * l .conductivity * c .hours * Δ)) over (c .insulation * c .share))
-requirement l Δ (Loss aim) = ratio ((sides (shapeOf l) * l .conductivity * Δ * 10 ^ 5) over aim)
-requirement l Δ (Surface s) = ratio ((sides (shapeOf l) * l .conductivity * Δ * 10 ^ 7) over (l .coefficient * s))
+requirement l Δ (Loss aim) = ratio ((multiplier (shapeOf l) * l .conductivity * Δ * 10 ^ 5) over aim)
+requirement l Δ (Surface s) = ratio ((multiplier (shapeOf l) * l .conductivity * Δ * 10 ^ 7) over (l .coefficient * s))
 
 -- "Low need is the largest whole number not above it; high need is the least not below it."
 unfoldable pub enclosing : Requirement → Bounds

@@ -23,11 +23,11 @@ abbrev pub verdictOf : Line → Requirement → ℕ → Verdict
 verdictOf l q r = judged (provided l (thicknessAt r)) (enclosing q)
 
 -- does a rung not miss?
-abbrev pub stands : Verdict → Bool
-stands Sufficient = true
-stands Insufficient = false
-stands Undecided = true
+abbrev pub notInsufficient : Verdict → Bool
+notInsufficient Sufficient = true
+notInsufficient Insufficient = false
+notInsufficient Undecided = true
 
 -- "The first rung that doesn't miss is the thickness if it meets": that rung's index, or the number of rungs where all miss
-unfoldable pub firstStanding : (ℕ → Verdict) → ℕ
-firstStanding v = least (λ r. stands (v r)) rungs
+unfoldable pub firstNotInsufficient : (ℕ → Verdict) → ℕ
+firstNotInsufficient v = least (λ r. notInsufficient (v r)) rungs

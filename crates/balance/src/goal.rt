@@ -2,7 +2,7 @@
 ghost use mathlib.Core.Path.{_≡_};
 ghost use Prim.Native.Nat.{_*_, _≤_, _<_};
 ghost use Rattle.balance.specs.declared.goal.Goal.the-variants.{Economy};
-ghost use Rattle.balance.specs.Line.{shapeOf, sides};
+ghost use Rattle.balance.specs.Line.{shapeOf, multiplier};
 ghost use Rattle.balance.specs.Ranges.{LineInRange, CostsInRange, GoalInRange};
 ghost use Rattle.balance.specs.Required.{coefficientSquared, requirement, enclosing};
 use crate::Line;
@@ -46,9 +46,9 @@ pub fn required(line: Line, difference: u64, goal: Goal) -> Bounds
 // 2LΔ, and on a flat wall LΔ.
 fn conduction(line: Line, difference: u64) -> u64
     requires { ⌜ LineInRange line × (difference ≤ 7_000) ⌝ }
-    ensures { λ r. ⌜ (r ≡ sides (shapeOf line) * line .conductivity * difference) × (r ≤ 28_000_000) ⌝ }
+    ensures { λ r. ⌜ (r ≡ multiplier (shapeOf line) * line .conductivity * difference) × (r ≤ 28_000_000) ⌝ }
 {
-    line.sided_conductivity() * difference
+    line.multiplied_conductivity() * difference
 }
 
 fn economy(line: Line, difference: u64, costs: Costs) -> Bounds

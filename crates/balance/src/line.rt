@@ -1,7 +1,7 @@
 // The insulated line, and its shape.
 ghost use mathlib.Core.Path.{_≡_};
 ghost use Prim.Native.Nat.{_*_, _≤_};
-ghost use Rattle.balance.specs.Line.{shapeOf, sides};
+ghost use Rattle.balance.specs.Line.{shapeOf, multiplier};
 ghost use Rattle.balance.specs.Ranges.{LineInRange};
 use quadrature::Diameter;
 
@@ -29,9 +29,9 @@ impl Line {
     }
 
     // 2L, and on a flat wall L.
-    pub fn sided_conductivity(self) -> u64
+    pub fn multiplied_conductivity(self) -> u64
         requires { ⌜ LineInRange self ⌝ }
-        ensures { λ r. ⌜ (r ≡ sides (shapeOf self) * self .conductivity) × (r ≤ 4_000) ⌝ }
+        ensures { λ r. ⌜ (r ≡ multiplier (shapeOf self) * self .conductivity) × (r ≤ 4_000) ⌝ }
     {
         match self.shape() {
             Shape::Cylinder => 2 * self.conductivity,

@@ -63,7 +63,10 @@ fn film(line: Line) -> Bounds
     requires { ⌜ LineInRange line ⌝ }
     ensures { λ r. ⌜ r ≡ filmBounds line ⌝ }
 {
-    quotient(line.sided_conductivity() * 10_000_000, line.coefficient)
+    quotient(
+        line.multiplied_conductivity() * 10_000_000,
+        line.coefficient,
+    )
 }
 
 // What the insulation provides.
@@ -72,13 +75,13 @@ fn insulation(p: Provision, k: Thickness) -> Bounds
     ensures { λ r. ⌜ (r ≡ insulationBounds (shapeOf (p .line)) (p .line .diameter .0) (k .0)) × (r .lower ≤ 2 ^ 62) × (r .upper ≤ 2 ^ 62) ⌝ }
 {
     match p.line.shape() {
-        Shape::Cylinder => wound(p.inner, p.line.diameter, k),
-        Shape::Flat => laid(k),
+        Shape::Cylinder => cylinder_insulation(p.inner, p.line.diameter, k),
+        Shape::Flat => flat_insulation(k),
     }
 }
 
 // What insulation of thickness k provides around a pipe of diameter d, to which the logarithm from 10.0 mm is `inner`.
-fn wound(inner: Bounds, d: Diameter, k: Thickness) -> Bounds
+fn cylinder_insulation(inner: Bounds, d: Diameter, k: Thickness) -> Bounds
     requires { ⌜ (inner ≡ logBounds 100 (d .0)) × (100 ≤ d .0) × (d .0 ≤ 10_000) × (k .0 ≤ 300) ⌝ }
     ensures { λ r. ⌜ (r ≡ insulationBounds Cylinder (d .0) (k .0)) × (r .lower ≤ 2 ^ 62) × (r .upper ≤ 2 ^ 62) ⌝ }
 {
@@ -91,7 +94,7 @@ fn wound(inner: Bounds, d: Diameter, k: Thickness) -> Bounds
 }
 
 // What it provides on a flat wall, whatever its diameter.
-fn laid(k: Thickness) -> Bounds
+fn flat_insulation(k: Thickness) -> Bounds
     requires { ⌜ k .0 ≤ 300 ⌝ }
     ensures { λ r. ⌜ ((D : ℕ) → r ≡ insulationBounds Flat D (k .0)) × (r .lower ≤ 2 ^ 62) × (r .upper ≤ 2 ^ 62) ⌝ }
 {

@@ -13,8 +13,8 @@ use Rattle.balance.specs.declared.goal.Goal.the-variants.{Economy, Loss, Surfac
 use Rattle.balance.specs.Ranges.{LineInRange, GoalInRange}
 use Rattle.sheet.specs.declared.fields.Sheet.{Sheet}
 use Rattle.sheet.specs.Sheet.{decoded, difference, surfaceAim, goalOf}
-use Rattle.sheet.specs.Refusals.{outside, anyOutside, field, economyFields, aimRefused, formal}
-use Rattle.sheet.specs.Demands.{Fail}
+use Rattle.sheet.specs.Refusals.{outside, anyOutside, field, economyFields, aimRefused, fieldCases}
+use Rattle.sheet.specs.Demands.{NoneHolds}
 use Rattle.sheet.proofs.Cases.{and-both, or-false-both, within, inside}
 
 pub record Admitted (s : Sheet) : Type 0 where
@@ -53,8 +53,8 @@ goal-in-range s false false e l fields near low high aim =
     let both = and-both above below (not-false (above && below) (rw (l, eq-eqb _ _ is) at aim)) in
     omega (arith, ltb-true (s .ambient) (surfaceAim s) (both .0), ltb-true (surfaceAim s) (s .temperature) (both .1))
 
-pub admitted : (bytes : List ℕ) → Fail (formal bytes) → Admitted (decoded bytes)
-unfolding Fail
+pub admitted : (bytes : List ℕ) → NoneHolds (fieldCases bytes) → Admitted (decoded bytes)
+unfolding NoneHolds
 admitted bytes f =
     let s = decoded bytes in
     let code = within (field 0 (s .goal) 1 3) (or-false-both (outside (field 0 (s .goal) 1 3)) _ (f .1 .0) .0) in

@@ -6,8 +6,8 @@ use mathlib.Core.List.{List, [], _∷_, _++_}
 use Prim.Native.Nat.{ℕ, _≤_}
 use lib.Dec.{eqb, ltb}
 use borrow.Author.Tests.{eq-eqb, ltb-false}
-use Rattle.sheet.specs.Refusals.{Case, case, first, Field, outside, anyOutside}
-use Rattle.sheet.specs.Demands.{Fail}
+use Rattle.sheet.specs.Refusals.{Case, case, firstHolding, Field, outside, anyOutside}
+use Rattle.sheet.specs.Demands.{NoneHolds}
 
 pub and-both : (a b : Bool) → a && b ≡ true → (a ≡ true) × (b ≡ true)
 and-both true b e = (refl, e)
@@ -19,20 +19,20 @@ absent n [] = true
 absent n (c ∷ cs) = not (eqb (c .number) n) && absent n cs
 
 -- Where n is the first number, and is that of no case in front, none in front holds.
-pub first-later : (n : ℕ) (cs ds : List Case) → absent n cs ≡ true → first (cs ++ ds) ≡ n → Fail cs × (first ds ≡ n)
-unfolding absent first Fail
+pub first-later : (n : ℕ) (cs ds : List Case) → absent n cs ≡ true → firstHolding (cs ++ ds) ≡ n → NoneHolds cs × (firstHolding ds ≡ n)
+unfolding absent firstHolding NoneHolds
 first-later n [] ds away = λ e. (tt, e)
 first-later n (c ∷ cs) ds away = go (c .holds) refl (first-later n cs ds (and-both (not (eqb (c .number) n)) (absent n cs) away .1))
   where
     go :
-        (b : Bool) → c .holds ≡ b → (first (cs ++ ds) ≡ n → Fail cs × (first ds ≡ n)) →
-        (elim b as (λ _. ℕ) [ true ↦ c .number | false ↦ first (cs ++ ds) ]) ≡ n → Fail (c ∷ cs) × (first ds ≡ n)
+        (b : Bool) → c .holds ≡ b → (firstHolding (cs ++ ds) ≡ n → NoneHolds cs × (firstHolding ds ≡ n)) →
+        (elim b as (λ _. ℕ) [ true ↦ c .number | false ↦ firstHolding (cs ++ ds) ]) ≡ n → NoneHolds (c ∷ cs) × (firstHolding ds ≡ n)
     go true h later e = let z : false ≡ true = rw (eq-eqb (c .number) n e) at away in absurd (false≢true z)
     go false h later e = ((h, later e .0), later e .1)
 
 -- Where none in front holds, the first is behind.
-pub first-after : (cs ds : List Case) → Fail cs → first (cs ++ ds) ≡ first ds
-unfolding first Fail
+pub first-after : (cs ds : List Case) → NoneHolds cs → firstHolding (cs ++ ds) ≡ firstHolding ds
+unfolding firstHolding NoneHolds
 first-after [] ds f = refl
 first-after (c ∷ cs) ds f = rw (f .0) (first-after cs ds (f .1))
 

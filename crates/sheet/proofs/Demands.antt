@@ -12,17 +12,17 @@ use borrow.Author.Tests.{eqb-true, eqb-false, eq-eqb, ne-eqb}
 use Rattle.quadrature.specs.Ladder.{rungs, thicknessAt}
 use Rattle.balance.specs.declared.verdict.Verdict.{Verdict}
 use Rattle.balance.specs.declared.verdict.Verdict.the-variants.{Sufficient, Insufficient, Undecided}
-use Rattle.balance.specs.Verdict.{stands}
+use Rattle.balance.specs.Verdict.{notInsufficient}
 use Rattle.balance.proofs.Requirements.{in-range-proper}
-use Rattle.balance.proofs.Search.{first-within, misses-before, first-stands, first-is, first-none, least-anywhere}
+use Rattle.balance.proofs.Search.{first-within, misses-before, first-not-insufficient, first-is, first-none, least-anywhere}
 use Rattle.balance.proofs.Judgement.{MeetsOn, MissesOn, meets-stays, sound}
 use Rattle.sheet.specs.declared.fields.Sheet.{Sheet}
 use Rattle.sheet.specs.Bytes.{number, bytesOf}
 use Rattle.sheet.specs.Sheet.{decoded, difference, goalOf}
 use Rattle.sheet.specs.Search.{requires, verdictAt, chosen}
 use Rattle.sheet.specs.Answer.{answer, answerOf}
-use Rattle.sheet.specs.Refusals.{Case, case, first, formal, tried, isUndecided, refusal}
-use Rattle.sheet.specs.Demands.{Fail, StatedCases, Demand3}
+use Rattle.sheet.specs.Refusals.{Case, case, firstHolding, fieldCases, ladderCases, isUndecided, refusal}
+use Rattle.sheet.specs.Demands.{NoneHolds, StatedCases, Demand3}
 use Rattle.sheet.proofs.Cases.{absent, first-later, first-after}
 use Rattle.sheet.proofs.Admitted.{Admitted, admitted}
 
@@ -32,21 +32,21 @@ pub record Answered (bytes : List ℕ) : Type 0 where
   pub found : chosen (decoded bytes) < rungs
   pub enough : verdictAt (decoded bytes) (goalOf (decoded bytes)) (chosen (decoded bytes)) ≡ Sufficient
 
-sufficient : (x : Verdict) → stands x ≡ true → isUndecided x ≡ false → x ≡ Sufficient
+sufficient : (x : Verdict) → notInsufficient x ≡ true → isUndecided x ≡ false → x ≡ Sufficient
 sufficient Sufficient t u = refl
 sufficient Insufficient t u = cc
 sufficient Undecided t u = cc
 
 pub answered : (bytes : List ℕ) → refusal bytes ≡ 0 → Answered bytes
-unfolding absent Fail
+unfolding absent NoneHolds
 answered bytes h =
     let s = decoded bytes in
     let v = verdictAt s (goalOf s) in
-    let early = first-later 0 (formal bytes) (tried bytes) refl h in
-    let late = first-later 0 (tried bytes) [] refl (early .1) .0 in
+    let early = first-later 0 (fieldCases bytes) (ladderCases bytes) refl h in
+    let late = first-later 0 (ladderCases bytes) [] refl (early .1) .0 in
     let not-all : ¬ (chosen s ≡ rungs) = eqb-false _ _ (late .0) in
     let lt : chosen s < rungs = omega (arith, first-within v) in
-    record { admitted = admitted bytes (early .0); found = lt; enough = sufficient (v (chosen s)) (first-stands v lt) (late .1 .0) }
+    record { admitted = admitted bytes (early .0); found = lt; enough = sufficient (v (chosen s)) (first-not-insufficient v lt) (late .1 .0) }
 
 -- bytes 2–3 of the answer
 two-bytes : (x : ℕ) → x < 65_536 → 256 * (x / 256 % 256) + x % 256 ≡ x
@@ -72,14 +72,14 @@ demand-3 bytes h m hm r lt =
     (λ e. law .0 (omega (arith, a .found)), λ e. is ∙ ap thicknessAt (law .1 e))
 
 -- The last two cases: 17 comes where the first of them holds, 18 where only the second does.
-seventeen-holds : (a b : Bool) → first (case 17 a ∷ case 18 b ∷ []) ≡ 17 → a ≡ true
-unfolding first
+seventeen-holds : (a b : Bool) → firstHolding (case 17 a ∷ case 18 b ∷ []) ≡ 17 → a ≡ true
+unfolding firstHolding
 seventeen-holds true b e = refl
 seventeen-holds false true e = absurd (omega arith)
 seventeen-holds false false e = absurd (omega arith)
 
-eighteen-holds : (a b : Bool) → first (case 17 a ∷ case 18 b ∷ []) ≡ 18 → (a ≡ false) × (b ≡ true)
-unfolding first
+eighteen-holds : (a b : Bool) → firstHolding (case 17 a ∷ case 18 b ∷ []) ≡ 18 → (a ≡ false) × (b ≡ true)
+unfolding firstHolding
 eighteen-holds true b e = absurd (omega arith)
 eighteen-holds false true e = (refl, refl)
 eighteen-holds false false e = absurd (omega arith)
@@ -102,31 +102,31 @@ module _ (sheet : List ℕ) where
   FirstOpen : Type 0
   FirstOpen = (r : ℕ) × (r < rungs) × (v r ≡ Undecided) × ((i : ℕ) → i < r → v i ≡ Insufficient)
 
-  only-17 : refusal sheet ≡ 17 → Fail (formal sheet) × AllMiss
+  only-17 : refusal sheet ≡ 17 → NoneHolds (fieldCases sheet) × AllMiss
   unfolding absent AllMiss
   only-17 h =
-      let got = first-later 17 (formal sheet) (tried sheet) refl h in
+      let got = first-later 17 (fieldCases sheet) (ladderCases sheet) refl h in
       let all : c ≡ rungs = eqb-true _ _ (seventeen-holds (eqb c rungs) (isUndecided (v c)) (got .1)) in
       (got .0, λ r lt. misses-before v r (omega arith))
 
-  when-17 : Fail (formal sheet) × AllMiss → refusal sheet ≡ 17
+  when-17 : NoneHolds (fieldCases sheet) × AllMiss → refusal sheet ≡ 17
   unfolding first AllMiss
-  when-17 h = first-after (formal sheet) (tried sheet) (h .0) ∙ rw (eq-eqb c rungs (first-none v (h .1)))
+  when-17 h = first-after (fieldCases sheet) (ladderCases sheet) (h .0) ∙ rw (eq-eqb c rungs (first-none v (h .1)))
 
-  only-18 : refusal sheet ≡ 18 → Fail (formal sheet) × FirstOpen
+  only-18 : refusal sheet ≡ 18 → NoneHolds (fieldCases sheet) × FirstOpen
   unfolding absent FirstOpen
   only-18 h =
-      let got = first-later 18 (formal sheet) (tried sheet) refl h in
+      let got = first-later 18 (fieldCases sheet) (ladderCases sheet) refl h in
       let holds = eighteen-holds (eqb c rungs) (isUndecided (v c)) (got .1) in
       let some : ¬ (c ≡ rungs) = eqb-false _ _ (holds .0) in
       (got .0, (c, omega (arith, first-within v), undecided (v c) (holds .1), misses-before v))
 
-  when-18 : Fail (formal sheet) × FirstOpen → refusal sheet ≡ 18
+  when-18 : NoneHolds (fieldCases sheet) × FirstOpen → refusal sheet ≡ 18
   unfolding first FirstOpen
   when-18 h =
       let r = h .1 .0 in
-      let is : c ≡ r = first-is v r (h .1 .1) (ap stands (h .1 .2)) (h .1 .3) in
-      first-after (formal sheet) (tried sheet) (h .0) ∙ rw (is, ne-eqb r rungs (λ e. omega (arith, h .1 .1)), h .1 .2)
+      let is : c ≡ r = first-is v r (h .1 .1) (ap notInsufficient (h .1 .2)) (h .1 .3) in
+      first-after (fieldCases sheet) (ladderCases sheet) (h .0) ∙ rw (is, ne-eqb r rungs (λ e. omega (arith, h .1 .1)), h .1 .2)
 
 pub stated-cases : (sheet : List ℕ) → StatedCases sheet
 unfolding AllMiss FirstOpen

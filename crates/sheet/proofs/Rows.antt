@@ -10,7 +10,7 @@ use lib.Dec.{leb, eqb}
 use lib.ListN.{length, getD}
 use borrow.Author.Tests.{leb-true, leb-false, eqb-true}
 use Rattle.sheet.specs.Bytes.{zeroDegrees}
-use Rattle.sheet.specs.Limits.{Row, table, unprinted, column, highest, lossLimit}
+use Rattle.sheet.specs.Limits.{Row, table, unprinted, column, highestNotAbove, lossLimit}
 use Rattle.sheet.proofs.Cases.{and-both}
 
 -- A row as the code holds it, and what is read there.
@@ -61,8 +61,8 @@ even n (r ∷ rs) = eqb (r .temperature) (50 * suc n) && even (suc n) rs
 abbrev rowsUpTo : ℕ → ℕ
 rowsUpTo t = (t - zeroDegrees) / 500
 
-row-at : (t : ℕ) (rs : List Row) (n : ℕ) (below : Row) → even n rs ≡ true → n ≤ rowsUpTo t → rowsUpTo t ≤ n + length rs → highest t below rs ≡ getD (below ∷ rs) (rowsUpTo t - n) unprinted
-unfolding highest even
+row-at : (t : ℕ) (rs : List Row) (n : ℕ) (below : Row) → even n rs ≡ true → n ≤ rowsUpTo t → rowsUpTo t ≤ n + length rs → highestNotAbove t below rs ≡ getD (below ∷ rs) (rowsUpTo t - n) unprinted
+unfolding highestNotAbove even
 row-at t [] n below spaced low high =
     let none : rowsUpTo t - n ≡ 0 = omega arith in
     rw none
@@ -73,8 +73,8 @@ row-at t (r ∷ rs) n below spaced low high = go (leb (zeroDegrees + 10 * r .tem
 
     go :
         (b : Bool) → leb (zeroDegrees + 10 * r .temperature) t ≡ b →
-        (suc n ≤ rowsUpTo t → rowsUpTo t ≤ suc n + length rs → highest t r rs ≡ getD (r ∷ rs) (rowsUpTo t - suc n) unprinted) →
-        (elim b as (λ _. Row) [ true ↦ highest t r rs | false ↦ below ]) ≡ getD (below ∷ r ∷ rs) (rowsUpTo t - n) unprinted
+        (suc n ≤ rowsUpTo t → rowsUpTo t ≤ suc n + length rs → highestNotAbove t r rs ≡ getD (r ∷ rs) (rowsUpTo t - suc n) unprinted) →
+        (elim b as (λ _. Row) [ true ↦ highestNotAbove t r rs | false ↦ below ]) ≡ getD (below ∷ r ∷ rs) (rowsUpTo t - n) unprinted
     go true e higher =
         let up : zeroDegrees + 10 * r .temperature ≤ t = leb-true _ _ e in
         let next : rowsUpTo t - n ≡ suc (rowsUpTo t - suc n) = omega (arith, at) in
@@ -84,6 +84,6 @@ row-at t (r ∷ rs) n below spaced low high = go (leb (zeroDegrees + 10 * r .tem
         let here : rowsUpTo t - n ≡ 0 = omega (arith, at) in
         rw here
 
-pub row-below : (t : ℕ) → t ≤ zeroDegrees + 6_500 → highest t unprinted table ≡ getD (unprinted ∷ table) (rowsUpTo t) unprinted
+pub row-below : (t : ℕ) → t ≤ zeroDegrees + 6_500 → highestNotAbove t unprinted table ≡ getD (unprinted ∷ table) (rowsUpTo t) unprinted
 unfolding even
 row-below t le = row-at t table 0 unprinted refl (omega arith) (omega arith) ∙ rw sub-zero

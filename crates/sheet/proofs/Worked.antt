@@ -14,14 +14,14 @@ use Rattle.quadrature.proofs.Sums.{log-self}
 use Rattle.roots.specs.Least.{least}
 use Rattle.balance.specs.Provided.{insulation, film, insulationBounds, filmBounds, provided}
 use Rattle.balance.specs.Required.{requirement, enclosing}
-use Rattle.balance.specs.Verdict.{firstStanding}
+use Rattle.balance.specs.Verdict.{firstNotInsufficient}
 use Rattle.sheet.specs.declared.fields.Sheet.{Sheet}
 use Rattle.sheet.specs.Bytes.{number, bytesOf}
 use Rattle.sheet.specs.Sheet.{decoded, surfaceAim}
-use Rattle.sheet.specs.Limits.{highest, lossLimit}
+use Rattle.sheet.specs.Limits.{highestNotAbove, lossLimit}
 use Rattle.sheet.specs.Answer.{lossCheck, surfaceCheck, surfaceBound, answerOf}
-use Rattle.sheet.specs.Refusals.{case, anyOutside, aimRefused, first, formal, tried, refusal}
-use Rattle.sheet.specs.Demands.{Fail}
+use Rattle.sheet.specs.Refusals.{case, anyOutside, aimRefused, firstHolding, fieldCases, ladderCases, refusal}
+use Rattle.sheet.specs.Demands.{NoneHolds}
 use Rattle.sheet.specs.Worked.{Worked}
 use Rattle.sheet.proofs.Cases.{first-after}
 
@@ -31,14 +31,14 @@ aim-refused s goal aim =
     let below : ltb (surfaceAim s) (s .temperature) ≡ false = le-ltb (surfaceAim s) (s .temperature) (omega arith) in
     rw (goal, below, and-false)
 
-aim-at-t : (sheet : List ℕ) → let s = decoded sheet in s .goal ≡ 3 → surfaceAim s ≡ s .temperature → Fail (take 5 (formal sheet)) → refusal sheet ≡ 16
-unfolding first
+aim-at-t : (sheet : List ℕ) → let s = decoded sheet in s .goal ≡ 3 → surfaceAim s ≡ s .temperature → NoneHolds (take 5 (fieldCases sheet)) → refusal sheet ≡ 16
+unfolding firstHolding
 aim-at-t sheet goal aim earlier =
     let s = decoded sheet in
-    first-after (take 5 (formal sheet)) (case 16 (aimRefused s) ∷ tried sheet) earlier ∙ rw (aim-refused s goal aim)
+    first-after (take 5 (fieldCases sheet)) (case 16 (aimRefused s) ∷ ladderCases sheet) earlier ∙ rw (aim-refused s goal aim)
 
 pub worked : Worked
-unfolding lowerStep upperStep least insulation film insulationBounds filmBounds provided requirement enclosing firstStanding number bytesOf decoded highest lossLimit lossCheck surfaceCheck surfaceBound answerOf anyOutside first
+unfolding lowerStep upperStep least insulation film insulationBounds filmBounds provided requirement enclosing firstNotInsufficient number bytesOf decoded highestNotAbove lossLimit lossCheck surfaceCheck surfaceBound answerOf anyOutside firstHolding
 worked =
     record {
       p1 = refl;

@@ -12,7 +12,7 @@ use Rattle.balance.specs.declared.line.Shape.{Shape}
 use Rattle.balance.specs.declared.line.Shape.the-variants.{Cylinder, Flat}
 use Rattle.balance.specs.declared.verdict.Verdict.{Verdict}
 use Rattle.balance.specs.declared.verdict.Verdict.the-variants.{Sufficient, Insufficient, Undecided}
-use Rattle.balance.specs.Line.{shapeOf, sides}
+use Rattle.balance.specs.Line.{shapeOf, multiplier}
 use Rattle.balance.specs.Provided.{provided}
 use Rattle.sheet.specs.declared.fields.Sheet.{Sheet}
 use Rattle.sheet.specs.Bytes.{bytesOf, offsetBinary}
@@ -46,7 +46,7 @@ surfaceCheck s r =
 -- "Surface bound: ta plus 2L × 10⁷ × Δ / (α × under-have) rounded up, flat with L in place of 2L, and never above t."
 unfoldable pub surfaceBound : Sheet → ℕ → ℕ
 surfaceBound s r =
-    let rise = ceiling ((sides (shapeOf (s .line)) * s .line .conductivity * 10 ^ 7 * difference s) over (s .line .coefficient * provided (s .line) (thicknessAt r) .lower)) in
+    let rise = ceiling ((multiplier (shapeOf (s .line)) * s .line .conductivity * 10 ^ 7 * difference s) over (s .line .coefficient * provided (s .line) (thicknessAt r) .lower)) in
     min (s .temperature) (s .ambient + rise)
 
 -- "Byte 0 is 0. Byte 1: 1 cylinder, 2 flat. Bytes 2–3: thickness in mm. Byte 4, loss check … Byte 5, surface check … Bytes 6–7: surface

@@ -13,23 +13,23 @@ use Rattle.sheet.specs.Bytes.{number}
 use Rattle.sheet.specs.Sheet.{decoded, goalOf}
 use Rattle.sheet.specs.Search.{requires, verdictAt}
 use Rattle.sheet.specs.Answer.{answer}
-use Rattle.sheet.specs.Refusals.{Case, formal, refusal}
+use Rattle.sheet.specs.Refusals.{Case, fieldCases, refusal}
 
 -- no case of a list holds
-unfoldable pub Fail : List Case → Type 0
-Fail [] = Unit {0}
-Fail (c ∷ cs) = (c .holds ≡ false) × Fail cs
+unfoldable pub NoneHolds : List Case → Type 0
+NoneHolds [] = Unit {0}
+NoneHolds (c ∷ cs) = (c .holds ≡ false) × NoneHolds cs
 
 -- Demand 2: "refusals 17 and 18 come in their stated cases only". Refusal 17: the cases 11 to 16 fail and all 31 rungs miss. Refusal 18: they
 -- fail, and some rung is open while every rung below it misses.
 pub record StatedCases (sheet : List ℕ) : Type 0 where
   pub seventeen :
       let s = decoded sheet in
-      (refusal sheet ≡ 17) ↔ (Fail (formal sheet) × ((r : ℕ) → r < rungs → verdictAt s (goalOf s) r ≡ Insufficient))
+      (refusal sheet ≡ 17) ↔ (NoneHolds (fieldCases sheet) × ((r : ℕ) → r < rungs → verdictAt s (goalOf s) r ≡ Insufficient))
   pub eighteen :
       let s = decoded sheet in
       (refusal sheet ≡ 18) ↔
-      (Fail (formal sheet) ×
+      (NoneHolds (fieldCases sheet) ×
       ((r : ℕ) × (r < rungs) × (verdictAt s (goalOf s) r ≡ Undecided) × ((i : ℕ) → i < r → verdictAt s (goalOf s) i ≡ Insufficient)))
 
 -- Demand 3: "For every answered sheet, every cutting of the logarithm's area that the paper allows, however fine, and every rung of the

@@ -29,13 +29,13 @@ abbrev pub column : ℕ → Row → ℕ
 column service r = cond (eqb service 1) (r .yearRound) (r .seasonal)
 
 -- "The row is the highest one not above t. Below 50.0, or seasonal from 450.0, none is printed.": the rows rise
-unfoldable pub highest : ℕ → Row → List Row → Row
-highest t below [] = below
-highest t below (r ∷ higher) = elim (leb (zeroDegrees + 10 * r .temperature) t) [ true ↦ highest t r higher | false ↦ below ]
+unfoldable pub highestNotAbove : ℕ → Row → List Row → Row
+highestNotAbove t below [] = below
+highestNotAbove t below (r ∷ higher) = elim (leb (zeroDegrees + 10 * r .temperature) t) [ true ↦ highestNotAbove t r higher | false ↦ below ]
 
 -- the limit in tenths of W/m², 0 where none is printed
 unfoldable pub lossLimit : ℕ → ℕ → ℕ
-lossLimit service t = 10 * column service (highest t unprinted table)
+lossLimit service t = 10 * column service (highestNotAbove t unprinted table)
 
 -- "Surface limit: 50.0 °C for ta up to 27.0, else ta + 25.0 (001, 3.0.5)."
 abbrev pub surfaceLimit : ℕ → ℕ

@@ -50,8 +50,8 @@ ranges s =
     cond (isEconomy s) (economyFields s) []
 
 -- "and are zero otherwise", "The aim is zero for goal 1."
-abbrev pub zeros : Sheet → List Field
-zeros s =
+abbrev pub mustBeZero : Sheet → List Field
+mustBeZero s =
     cond (isEconomy s) (field 22 (s .aim) 0 0 ∷ [])
     (field 14 (s .costs .heat) 0 0 ∷ field 16 (s .costs .hours) 0 0 ∷ field 18 (s .costs .insulation) 0 0 ∷ field 20 (s .costs .share) 0 0 ∷ [])
 
@@ -69,13 +69,13 @@ abbrev pub case : ℕ → Bool → Case
 case n b = record { number = n; holds = b }
 
 -- the number of the first case that holds, 0 where none does
-unfoldable pub first : List Case → ℕ
-first [] = 0
-first (c ∷ cs) = elim (c .holds) [ true ↦ c .number | false ↦ first cs ]
+unfoldable pub firstHolding : List Case → ℕ
+firstHolding [] = 0
+firstHolding (c ∷ cs) = elim (c .holds) [ true ↦ c .number | false ↦ firstHolding cs ]
 
 -- the cases that need no rung
-abbrev pub formal : List ℕ → List Case
-formal bytes =
+abbrev pub fieldCases : List ℕ → List Case
+fieldCases bytes =
     let s = decoded bytes in
     -- "11: length is not 24."
     case 11 (not (eqb (length bytes) 24)) ∷
@@ -84,7 +84,7 @@ formal bytes =
     -- "13: a field outside its range."
     case 13 (anyOutside (ranges s)) ∷
     -- "14: an unused field not zero, or goal 1 with an aim not zero."
-    case 14 (anyOutside (zeros s)) ∷
+    case 14 (anyOutside (mustBeZero s)) ∷
     -- "15: t not above ta."
     case 15 (leb (s .temperature) (s .ambient)) ∷
     -- "16: goal 2 with aim 0; goal 3 unless ta < aim < t."
@@ -97,8 +97,8 @@ isUndecided Insufficient = false
 isUndecided Undecided = true
 
 -- the cases that try the ladder
-abbrev pub tried : List ℕ → List Case
-tried bytes =
+abbrev pub ladderCases : List ℕ → List Case
+ladderCases bytes =
     let s = decoded bytes in
     -- "17: all 31 rungs miss."
     case 17 (eqb (chosen s) rungs) ∷
@@ -107,4 +107,4 @@ tried bytes =
     []
 
 abbrev pub refusal : List ℕ → ℕ
-refusal bytes = first (formal bytes ++ tried bytes)
+refusal bytes = firstHolding (fieldCases bytes ++ ladderCases bytes)

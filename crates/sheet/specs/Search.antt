@@ -4,7 +4,7 @@ use Prim.Native.Nat.{ℕ}
 use Rattle.balance.specs.declared.goal.Goal.{Goal}
 use Rattle.balance.specs.declared.verdict.Verdict.{Verdict}
 use Rattle.balance.specs.Required.{Requirement, requirement}
-use Rattle.balance.specs.Verdict.{verdictOf, firstStanding}
+use Rattle.balance.specs.Verdict.{verdictOf, firstNotInsufficient}
 use Rattle.sheet.specs.declared.fields.Sheet.{Sheet}
 use Rattle.sheet.specs.Sheet.{difference, goalOf}
 
@@ -18,4 +18,4 @@ verdictAt s goal r = verdictOf (s .line) (requires s goal) r
 
 -- "The first rung that doesn't miss is the thickness if it meets.": the index of that rung
 abbrev pub chosen : Sheet → ℕ
-chosen s = firstStanding (verdictAt s (goalOf s))
+chosen s = firstNotInsufficient (verdictAt s (goalOf s))

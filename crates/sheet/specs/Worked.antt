@@ -13,8 +13,8 @@ use Rattle.sheet.specs.Sheet.{decoded, surfaceAim, goalOf}
 use Rattle.sheet.specs.Search.{requires}
 use Rattle.sheet.specs.Limits.{lossLimit, surfaceLimit}
 use Rattle.sheet.specs.Answer.{answer}
-use Rattle.sheet.specs.Refusals.{formal, refusal}
-use Rattle.sheet.specs.Demands.{Fail}
+use Rattle.sheet.specs.Refusals.{fieldCases, refusal}
+use Rattle.sheet.specs.Demands.{NoneHolds}
 
 -- "Sheet F: goal 2, service 1, line 7, D 12,000, t 1,300, ta 200, L 400, α 800, aim 800", for any goal and aim
 abbrev pub sheetF : ℕ → ℕ → List ℕ
@@ -56,7 +56,7 @@ pub record Worked : Type 0 where
   -- "P9: goal 3, aim = t: 16.": of sheet F, and of every sheet for which no earlier case holds
   pub p9 :
       (refusal (sheetF 3 1_300) ≡ 16) ×
-      ((sheet : List ℕ) → let s = decoded sheet in s .goal ≡ 3 → surfaceAim s ≡ s .temperature → Fail (take 5 (formal sheet)) → refusal sheet ≡ 16)
+      ((sheet : List ℕ) → let s = decoded sheet in s .goal ≡ 3 → surfaceAim s ≡ s .temperature → NoneHolds (take 5 (fieldCases sheet)) → refusal sheet ≡ 16)
   -- "P10: year-round, 299.9 °C: 163. P11: seasonal, 450.0: none printed. P12: ta 27.0: 50.0; ta 27.1: 52.1."
   pub p10 : lossLimit 1 (zeroDegrees + 2_999) ≡ 1_630
   pub p11 : lossLimit 2 (zeroDegrees + 4_500) ≡ 0

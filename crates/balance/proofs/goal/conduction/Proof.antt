@@ -8,16 +8,16 @@ use borrow.Author.Needs.{needs}
 use Rattle.balance.proofs.goal.conduction.Statement.{statement}
 use Rattle.balance.proofs.goal.conduction.Tie as tie
 
-sided-conductivity-requires : tie.Need-sided-conductivity-requires
-sided-conductivity-requires c κs = search needs
+multiplied-conductivity-requires : tie.Need-multiplied-conductivity-requires
+multiplied-conductivity-requires c κs = search needs
 
 mul-result : tie.Need-mul-result
-mul-result c = omega (arith, mul-le-mul (c .sided-conductivity .ensures .1) (c .before .pre .1))
+mul-result c = omega (arith, mul-le-mul (c .multiplied-conductivity .ensures .1) (c .before .pre .1))
 
 returns : tie.Need-returns
 returns c =
-    let got = c .sided-conductivity .ensures in
+    let got = c .multiplied-conductivity .ensures in
     (ap (λ (x : ℕ). x * c .before .args .difference) (got .0), omega (arith, mul-le-mul (got .1) (c .before .pre .1)))
 
 pub conduction-spec : {M : Type 1} → statement M
-conduction-spec = tie.close (tie.spec sided-conductivity-requires mul-result returns)
+conduction-spec = tie.close (tie.spec multiplied-conductivity-requires mul-result returns)

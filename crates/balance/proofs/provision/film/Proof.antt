@@ -9,8 +9,8 @@ use borrow.Author.Needs.{needs}
 use Rattle.balance.proofs.provision.film.Statement.{statement}
 use Rattle.balance.proofs.provision.film.Tie as tie
 
-sided-conductivity-requires : tie.Need-sided-conductivity-requires
-sided-conductivity-requires c κs = search needs
+multiplied-conductivity-requires : tie.Need-multiplied-conductivity-requires
+multiplied-conductivity-requires c κs = search needs
 
 mul-quotient : tie.Need-mul-quotient
 mul-quotient c = search needs
@@ -20,7 +20,7 @@ quotient-requires c κs = search needs
 
 returns : tie.Need-returns
 unfolding film filmBounds
-returns c = c .quotient .ensures ∙ ap (λ (x : ℕ). rounded ((x * 10 ^ 7) over c .before .before .args .line .coefficient)) (c .before .sided-conductivity .ensures .0)
+returns c = c .quotient .ensures ∙ ap (λ (x : ℕ). rounded ((x * 10 ^ 7) over c .before .before .args .line .coefficient)) (c .before .multiplied-conductivity .ensures .0)
 
 pub film-spec : {M : Type 1} → statement M
-film-spec = tie.close (tie.spec sided-conductivity-requires mul-quotient quotient-requires returns)
+film-spec = tie.close (tie.spec multiplied-conductivity-requires mul-quotient quotient-requires returns)

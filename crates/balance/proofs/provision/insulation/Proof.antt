@@ -16,9 +16,9 @@ shape-requires c κs = search needs
 enum-told : tie.Need-enum-told
 enum-told c = search needs
 
-wound-requires : tie.Need-wound-requires
+cylinder-insulation-requires : tie.Need-cylinder-insulation-requires
 unfolding provision
-wound-requires c κs =
+cylinder-insulation-requires c κs =
     let start = c .before .before .before in
     let p = start .args .p in
     let is : shapeOf (p .line) ≡ Cylinder = sym (c .before .before .shape .ensures) ∙ c .enum-told .given .1 in
@@ -28,22 +28,22 @@ wound-requires c κs =
 enum-told-2 : tie.Need-enum-told-2
 enum-told-2 c = search needs
 
-laid-requires : tie.Need-laid-requires
-laid-requires c κs = search needs
+flat-insulation-requires : tie.Need-flat-insulation-requires
+flat-insulation-requires c κs = search needs
 
 returns : tie.Need-returns
 returns c =
     let is : shapeOf (c .before .before .before .before .args .p .line) ≡ Cylinder = sym (c .before .before .before .shape .ensures) ∙ c .before .enum-told .given .1 in
-    rw is (c .wound .ensures)
+    rw is (c .cylinder-insulation .ensures)
 
 returns-2 : tie.Need-returns-2
 returns-2 c =
     let p = c .before .before .before .before .args .p in
     let is : shapeOf (p .line) ≡ Flat = sym (c .before .before .before .shape .ensures) ∙ c .before .enum-told2 .given .1 in
-    let got = c .laid .ensures in
+    let got = c .flat-insulation .ensures in
     rw is (got .0 (p .line .diameter .0), got .1, got .2)
 
 pub insulation-spec : {M : Type 1} → statement M
 insulation-spec =
     tie.close
-    (tie.spec shape-requires enum-told wound-requires enum-told-2 laid-requires returns returns-2)
+    (tie.spec shape-requires enum-told cylinder-insulation-requires enum-told-2 flat-insulation-requires returns returns-2)

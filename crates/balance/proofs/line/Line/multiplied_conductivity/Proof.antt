@@ -1,12 +1,12 @@
--- `balance::Line::sided_conductivity` meets its contract.
+-- `balance::Line::multiplied_conductivity` meets its contract.
 -- Assumes nothing.
 use mathlib.Core.Path.{_≡_, sym, _∙_}
 use native.Mathlib.Omega.{arith}
 use Rattle.balance.specs.declared.line.Shape.the-variants.{Cylinder, Flat}
 use Rattle.balance.specs.Line.{shapeOf}
 use borrow.Author.Needs.{needs}
-use Rattle.balance.proofs.line.Line.sided_conductivity.Statement.{statement}
-use Rattle.balance.proofs.line.Line.sided_conductivity.Tie as tie
+use Rattle.balance.proofs.line.Line.multiplied_conductivity.Statement.{statement}
+use Rattle.balance.proofs.line.Line.multiplied_conductivity.Tie as tie
 
 shape-requires : tie.Need-shape-requires
 shape-requires c κs = search needs
@@ -32,6 +32,6 @@ returns-2 c =
     let is : shapeOf (start .args .self) ≡ Flat = sym (c .before .before .shape .ensures) ∙ c .enum-told2 .given .1 in
     rw is (omega arith)
 
-pub sided-conductivity-spec : {M : Type 1} → statement M
-sided-conductivity-spec =
+pub multiplied-conductivity-spec : {M : Type 1} → statement M
+multiplied-conductivity-spec =
     tie.close (tie.spec shape-requires enum-told mul-result enum-told-2 returns returns-2)

@@ -10,10 +10,10 @@ use Rattle.fractions.proofs.Sides.{lower-of, upper-of, both-of}
 use Rattle.quadrature.specs.Figures.{lowerStep, upperStep, lowerLog, upperLog}
 use Rattle.logarithm.proofs.Steps.{lower-small, upper-small}
 use Rattle.balance.specs.Provided.{insulation, insulationBounds}
-use Rattle.balance.proofs.Sizes.{wound-small}
+use Rattle.balance.proofs.Sizes.{cylinder-small}
 use borrow.Author.Needs.{needs}
-use Rattle.balance.proofs.provision.wound.Statement.{statement}
-use Rattle.balance.proofs.provision.wound.Tie as tie
+use Rattle.balance.proofs.provision.cylinder_insulation.Statement.{statement}
+use Rattle.balance.proofs.provision.cylinder_insulation.Tie as tie
 
 outer-requires : tie.Need-outer-requires
 outer-requires c κs = search needs
@@ -25,12 +25,12 @@ log-beyond-requires c κs = search needs
 lower-small-product : (c : tie.After-log-beyond) → c .before .outer .result .0 * c .log-beyond .result .lower ≤ 16_000 * (16_000 * 10 ^ 10)
 lower-small-product c =
     let pre = c .before .before .pre in
-    wound-small lowerStep lower-small (pre .1) (pre .2) (pre .3) (c .before .outer .ensures) (lower-of (c .log-beyond .ensures))
+    cylinder-small lowerStep lower-small (pre .1) (pre .2) (pre .3) (c .before .outer .ensures) (lower-of (c .log-beyond .ensures))
 
 upper-small-product : (c : tie.After-log-beyond) → c .before .outer .result .0 * c .log-beyond .result .upper ≤ 16_000 * (16_000 * 10 ^ 10)
 upper-small-product c =
     let pre = c .before .before .pre in
-    wound-small upperStep upper-small (pre .1) (pre .2) (pre .3) (c .before .outer .ensures) (upper-of (c .log-beyond .ensures))
+    cylinder-small upperStep upper-small (pre .1) (pre .2) (pre .3) (c .before .outer .ensures) (upper-of (c .log-beyond .ensures))
 
 mul-t6 : tie.Need-mul-t6
 mul-t6 c = omega (arith, lower-small-product (c .before .before))
@@ -56,7 +56,7 @@ returns c =
       omega (arith, upper-small-product at, upper-of (c .quotient .ensures), div-le-self (e * at .log-beyond .result .upper + (10 ^ 7 - 1)) (10 ^ 7)),
     )
 
-pub wound-spec : {M : Type 1} → statement M
-wound-spec =
+pub cylinder-insulation-spec : {M : Type 1} → statement M
+cylinder-insulation-spec =
     tie.close
     (tie.spec outer-requires log-beyond-requires mul-t6 mul-quotient quotient-requires returns)

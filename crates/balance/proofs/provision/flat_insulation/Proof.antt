@@ -4,8 +4,8 @@ use native.Mathlib.Omega.{arith}
 use Rattle.fractions.proofs.Sides.{both-of}
 use Rattle.balance.specs.Provided.{insulation, insulationBounds}
 use borrow.Author.Needs.{needs}
-use Rattle.balance.proofs.provision.laid.Statement.{statement}
-use Rattle.balance.proofs.provision.laid.Tie as tie
+use Rattle.balance.proofs.provision.flat_insulation.Statement.{statement}
+use Rattle.balance.proofs.provision.flat_insulation.Tie as tie
 
 mul-nanometres : tie.Need-mul-nanometres
 mul-nanometres c = search needs
@@ -14,5 +14,5 @@ returns : tie.Need-returns
 unfolding insulation insulationBounds
 returns c = (λ D. both-of (omega arith) (omega arith), omega arith, omega arith)
 
-pub laid-spec : {M : Type 1} → statement M
-laid-spec = tie.close (tie.spec mul-nanometres returns)
+pub flat-insulation-spec : {M : Type 1} → statement M
+flat-insulation-spec = tie.close (tie.spec mul-nanometres returns)
