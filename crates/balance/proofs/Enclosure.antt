@@ -16,8 +16,8 @@ use Rattle.balance.specs.declared.line.Line.{Line}
 use Rattle.balance.specs.declared.line.Shape.{Shape}
 use Rattle.balance.specs.declared.line.Shape.the-variants.{Cylinder, Flat}
 use Rattle.balance.specs.Line.{shapeOf}
-use Rattle.balance.specs.Provided.{insulation, film, figured, insulationBounds, filmBounds, provided}
-use Rattle.balance.specs.Exact.{summed, providedExactly}
+use Rattle.balance.specs.Provided.{insulation, film, fromFigures, insulationBounds, filmBounds, provided}
+use Rattle.balance.specs.Exact.{fromSum, providedExactly}
 
 -- no thinner, on a logarithm that is no less
 insulation-mono :
@@ -55,27 +55,27 @@ module _ (l : Line) (m : ℕ) (hα : 1 ≤ l .coefficient) (hD : 1 ≤ l .diamet
 
   pub lower-provided-den : (k : ℕ) → 0 < providedExactly (lowerSum m) l k .den
   unfolding providedExactly
-  lower-provided-den k = quotients-den (summed (lowerSum m)) k (lower-den m _ _)
+  lower-provided-den k = quotients-den (fromSum (lowerSum m)) k (lower-den m _ _)
 
   pub upper-provided-den : (k : ℕ) → 0 < providedExactly (upperSum m) l k .den
   unfolding providedExactly
-  upper-provided-den k = quotients-den (summed (upperSum m)) k (upper-den m _ _ hm hD)
+  upper-provided-den k = quotients-den (fromSum (upperSum m)) k (upper-den m _ _ hm hD)
 
   pub provided-below : (k : ℕ) → provided l k .lower over 1 ≼ providedExactly (lowerSum m) l k
   unfolding provided insulationBounds filmBounds providedExactly
   provided-below k =
-      let log = figured lowerLog in
+      let log = fromFigures lowerLog in
       let D = l .diameter .0 in
       ≼-trans _ _ _ (quotients-den log k (omega arith)) (floors-below (insulation log (shapeOf l) D k) (film l))
-      (quotients-mono log (summed (lowerSum m)) (le-refl k) (omega (arith, enclosed m D (outerDiameter D k) hm hD .lower)))
+      (quotients-mono log (fromSum (lowerSum m)) (le-refl k) (omega (arith, enclosed m D (outerDiameter D k) hm hD .lower)))
 
   pub provided-above : (k : ℕ) → providedExactly (upperSum m) l k ≼ provided l k .upper over 1
   unfolding provided insulationBounds filmBounds providedExactly film
   provided-above k =
-      let log = figured upperLog in
+      let log = fromFigures upperLog in
       let D = l .diameter .0 in
       ≼-trans _ _ _ (quotients-den log k (omega arith))
-      (quotients-mono (summed (upperSum m)) log (le-refl k) (omega (arith, enclosed m D (outerDiameter D k) hm hD .upper)))
+      (quotients-mono (fromSum (upperSum m)) log (le-refl k) (omega (arith, enclosed m D (outerDiameter D k) hm hD .upper)))
       (ceilings-above (insulation log (shapeOf l) D k) (film l) (insulation-den log (shapeOf l) D k (omega arith)) hα)
 
   pub provided-grows : {j k : ℕ} → j ≤ k → providedExactly (lowerSum m) l j ≼ providedExactly (upperSum m) l k
@@ -84,7 +84,7 @@ module _ (l : Line) (m : ℕ) (hα : 1 ≤ l .coefficient) (hD : 1 ≤ l .diamet
       let D = l .diameter .0 in
       let E = outerDiameter D k in
       let sums = ≼-trans (lowerSum m D (outerDiameter D j)) (lowerSum m D E) (upperSum m D E) (lower-den m D E) (sum-mono midpoint m D (omega arith)) (enclosed m D E hm hD .sums) in
-      quotients-mono (summed (lowerSum m)) (summed (upperSum m)) le (omega (arith, mul-le-mul-right (10 ^ 5) sums))
+      quotients-mono (fromSum (lowerSum m)) (fromSum (upperSum m)) le (omega (arith, mul-le-mul-right (10 ^ 5) sums))
 
 -- "Flat walls have no sum." (01, "Ladder and figures")
 pub flat-reads-no-sum : (f g : ℕ → ℕ → Fraction) (l : Line) (k : ℕ) → shapeOf l ≡ Flat → providedExactly f l k ≡ providedExactly g l k

@@ -9,22 +9,22 @@ use Rattle.balance.specs.Provided.{insulation, film}
 use Rattle.balance.specs.Required.{Requirement}
 use Rattle.balance.specs.Required.Requirement.{ratio, root}
 
--- "The sums are plain numbers there, so have takes E × sum × 10⁵": what stands for log / 10⁷
-abbrev pub summed : (ℕ → ℕ → Fraction) → ℕ → ℕ → Fraction
-summed sum D E = (sum D E .num * 10 ^ 5) over sum D E .den
+-- "The sums are plain numbers there, so have takes E × sum × 10⁵.": sum × 10⁵ in place of log / 10⁷
+abbrev pub fromSum : (ℕ → ℕ → Fraction) → ℕ → ℕ → Fraction
+fromSum sum D E = (sum D E .num * 10 ^ 5) over sum D E .den
 
--- have unrounded, given the sum that replaces the logarithm; a flat wall has none
+-- Have unrounded. "A cutting m … replaces the log": sum gives its under-sum or over-sum between two diameters. "Flat walls have no sum."
 unfoldable pub providedExactly : (ℕ → ℕ → Fraction) → Line → ℕ → Fraction
-providedExactly sum l k = plus (insulation (summed sum) (shapeOf l) (l .diameter .0) k) (film l)
+providedExactly sum l k = plus (insulation (fromSum sum) (shapeOf l) (l .diameter .0) k) (film l)
 
 abbrev pub square : Fraction → Fraction
 square p = (p .num * p .num) over (p .den * p .den)
 
 -- "Exactly read, a rung meets if have is not below need, and misses if it is."
 unfoldable pub Meets : Requirement → Fraction → Type 0
-Meets (ratio need) have = need ≼ have
-Meets (root need) have = need ≼ square have
+Meets (ratio required) provided = required ≼ provided
+Meets (root required) provided = required ≼ square provided
 
 unfoldable pub Misses : Requirement → Fraction → Type 0
-Misses (ratio need) have = have ≺ need
-Misses (root need) have = square have ≺ need
+Misses (ratio required) provided = provided ≺ required
+Misses (root required) provided = square provided ≺ required

@@ -110,7 +110,7 @@ module _ (sheet : List ℕ) where
       (got .0, λ r lt. misses-before v r (omega arith))
 
   when-17 : NoneHolds (fieldCases sheet) × AllMiss → refusal sheet ≡ 17
-  unfolding first AllMiss
+  unfolding firstHolding AllMiss
   when-17 h = first-after (fieldCases sheet) (ladderCases sheet) (h .0) ∙ rw (eq-eqb c rungs (first-none v (h .1)))
 
   only-18 : refusal sheet ≡ 18 → NoneHolds (fieldCases sheet) × FirstOpen
@@ -122,7 +122,7 @@ module _ (sheet : List ℕ) where
       (got .0, (c, omega (arith, first-within v), undecided (v c) (holds .1), misses-before v))
 
   when-18 : NoneHolds (fieldCases sheet) × FirstOpen → refusal sheet ≡ 18
-  unfolding first FirstOpen
+  unfolding firstHolding FirstOpen
   when-18 h =
       let r = h .1 .0 in
       let is : c ≡ r = first-is v r (h .1 .1) (ap notInsufficient (h .1 .2)) (h .1 .3) in

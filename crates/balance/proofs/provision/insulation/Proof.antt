@@ -4,7 +4,7 @@ use mathlib.Core.Path.{_≡_, sym, _∙_}
 use native.Mathlib.Omega.{arith}
 use Rattle.balance.specs.declared.line.Shape.the-variants.{Cylinder, Flat}
 use Rattle.balance.specs.Line.{shapeOf}
-use Rattle.balance.specs.Provided.{innerLog, provision}
+use Rattle.balance.specs.Prepared.{innerLog, provision}
 use Rattle.balance.proofs.Sizes.{cylinder-diameter}
 use borrow.Author.Needs.{needs}
 use Rattle.balance.proofs.provision.insulation.Statement.{statement}

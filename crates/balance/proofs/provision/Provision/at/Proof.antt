@@ -4,7 +4,8 @@ use mathlib.Core.Path.{_≡_}
 use Prim.Native.Nat.{_+_}
 use native.Mathlib.Omega.{arith}
 use Rattle.fractions.proofs.Sides.{lower-of, upper-of, both-of}
-use Rattle.balance.specs.Provided.{filmBounds, provision, provided}
+use Rattle.balance.specs.Provided.{filmBounds, provided}
+use Rattle.balance.specs.Prepared.{provision}
 use Rattle.balance.proofs.Sizes.{film-small}
 use borrow.Author.Needs.{needs}
 use Rattle.balance.proofs.provision.Provision.at.Statement.{statement}

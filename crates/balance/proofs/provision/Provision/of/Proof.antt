@@ -1,6 +1,6 @@
 -- `balance::Provision::of` meets its contract.
 -- Assumes nothing.
-use Rattle.balance.specs.Provided.{provision}
+use Rattle.balance.specs.Prepared.{provision}
 use borrow.Author.Needs.{needs}
 use Rattle.balance.proofs.provision.Provision.of.Statement.{statement}
 use Rattle.balance.proofs.provision.Provision.of.Tie as tie
