@@ -59,7 +59,6 @@ multiplier-le Flat = omega arith
 pub film-small : (l : Line) → LineInRange l → (filmBounds l .lower ≤ 2 ^ 62) × (filmBounds l .upper ≤ 2 ^ 62)
 unfolding film filmBounds
 film-small l range =
-    let num = multiplier (shapeOf l) * l .conductivity * 10 ^ 7 in
-    let α = l .coefficient in
+    let p = film l in
     let small = mul-le-mul (multiplier-le (shapeOf l)) (range .conductivity) in
-    (omega (arith, small, div-le-self num α), omega (arith, small, div-le-self (num + (α - 1)) α))
+    (omega (arith, small, div-le-self (p .num) (p .den)), omega (arith, small, div-le-self (p .num + (p .den - 1)) (p .den)))

@@ -5,7 +5,7 @@ ghost use lib.ListN.{getD};
 ghost use Rattle.sheet.specs.Limits.{table, unprinted, column, lossLimit, surfaceLimit};
 
 // The limits in W/m² at 50 °C, 100 °C and so on to 650 °C, year-round and seasonal; 0 where none is printed.
-const LIMITS: [[u16; 2]; 13] = [
+const LIMITS: [[u64; 2]; 13] = [
     [58, 116],
     [93, 163],
     [116, 203],
@@ -39,9 +39,9 @@ pub fn loss_limit(service: u64, temperature: u64) -> u64
 // The limit that is printed in a row, the first being row 0, for a service.
 fn printed(row: u64, service: u64) -> u64
     requires { ⌜ (row < 13) × (1 ≤ service) × (service ≤ 2) ⌝ }
-    ensures { λ r. ⌜ (r ≡ column service (getD table row unprinted)) × (r < 65_536) ⌝ }
+    ensures { λ r. ⌜ (r ≡ column service (getD table row unprinted)) × (r ≤ 314) ⌝ }
 {
-    LIMITS[row as usize][(service - 1) as usize] as u64
+    LIMITS[row as usize][(service - 1) as usize]
 }
 
 // The limit of the surface's temperature where the air has the temperature ambient, both counted from −3,276.8 °C.

@@ -21,22 +21,20 @@ outer-requires c κs = search needs
 log-beyond-requires : tie.Need-log-beyond-requires
 log-beyond-requires c κs = search needs
 
--- each side of the outer diameter times the logarithm, after the two calls
-lower-small-product : (c : tie.After-log-beyond) → c .before .outer .result .0 * c .log-beyond .result .lower ≤ 16_000 * (16_000 * 10 ^ 10)
-lower-small-product c =
+-- the outer diameter times each side of the logarithm, after the two calls
+small : (c : tie.After-log-beyond) → let e = c .before .outer .result .0 in
+    (e * c .log-beyond .result .lower ≤ 16_000 * (16_000 * 10 ^ 10)) × (e * c .log-beyond .result .upper ≤ 16_000 * (16_000 * 10 ^ 10))
+small c =
     let pre = c .before .before .pre in
-    cylinder-small lowerStep lower-small (pre .1) (pre .2) (pre .3) (c .before .outer .ensures) (lower-of (c .log-beyond .ensures))
-
-upper-small-product : (c : tie.After-log-beyond) → c .before .outer .result .0 * c .log-beyond .result .upper ≤ 16_000 * (16_000 * 10 ^ 10)
-upper-small-product c =
-    let pre = c .before .before .pre in
-    cylinder-small upperStep upper-small (pre .1) (pre .2) (pre .3) (c .before .outer .ensures) (upper-of (c .log-beyond .ensures))
+    let outer = c .before .outer .ensures in
+    let log = c .log-beyond .ensures in
+    (cylinder-small lowerStep lower-small (pre .1) (pre .2) (pre .3) outer (lower-of log), cylinder-small upperStep upper-small (pre .1) (pre .2) (pre .3) outer (upper-of log))
 
 mul-t6 : tie.Need-mul-t6
-mul-t6 c = omega (arith, lower-small-product (c .before .before))
+mul-t6 c = omega (arith, small (c .before .before))
 
 mul-quotient : tie.Need-mul-quotient
-mul-quotient c = omega (arith, upper-small-product (c .before .before .before .before))
+mul-quotient c = omega (arith, small (c .before .before .before .before))
 
 quotient-requires : tie.Need-quotient-requires
 quotient-requires c κs = search needs
@@ -52,8 +50,8 @@ returns c =
       both-of
           (ap (λ (t : ℕ). e * t / 10 ^ 7) (lower-of log) ∙ ap (λ (x : ℕ). x * lowerLog D x / 10 ^ 7) outer)
           (upper-of (c .quotient .ensures) ∙ ap (λ (t : ℕ). ceiling ((e * t) over 10 ^ 7)) (upper-of log) ∙ ap (λ (x : ℕ). ceiling ((x * upperLog D x) over 10 ^ 7)) outer),
-      omega (arith, lower-small-product at, div-le-self (e * at .log-beyond .result .lower) (10 ^ 7)),
-      omega (arith, upper-small-product at, upper-of (c .quotient .ensures), div-le-self (e * at .log-beyond .result .upper + (10 ^ 7 - 1)) (10 ^ 7)),
+      omega (arith, small at, div-le-self (e * at .log-beyond .result .lower) (10 ^ 7)),
+      omega (arith, small at, upper-of (c .quotient .ensures), div-le-self (e * at .log-beyond .result .upper + (10 ^ 7 - 1)) (10 ^ 7)),
     )
 
 pub cylinder-insulation-spec : {M : Type 1} → statement M

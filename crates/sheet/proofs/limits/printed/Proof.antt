@@ -23,20 +23,14 @@ index-1-result c = search needs
 index-2-result : tie.Need-index-2-result
 index-2-result c = search needs
 
-cast-result : tie.Need-cast-result
-cast-result c =
-    let a = c .before .args in
-    let pre = c .before .pre in
-    omega (arith, read table (a .row) (a .service) (pre .0) (pre .1) (pre .2), limit-small (a .row) (a .service))
-
 returns : tie.Need-returns
 returns c =
     let a = c .before .args in
     let pre = c .before .pre in
     let is = read table (a .row) (a .service) (pre .0) (pre .1) (pre .2) in
-    (is, omega (arith, limit-small (a .row) (a .service)))
+    (is, omega (arith, is, limit-small (a .row) (a .service)))
 
 pub printed-spec : {M : Type 1} → statement M
 printed-spec =
     tie.close
-    (tie.spec sub-result mul-result mul-result-2 index-1-result index-2-result cast-result returns)
+    (tie.spec sub-result mul-result mul-result-2 index-1-result index-2-result returns)

@@ -1,9 +1,8 @@
 -- `balance::Provision::at` meets its contract.
 -- Assumes nothing.
 use mathlib.Core.Path.{_≡_}
-use Prim.Native.Nat.{_+_}
+use Prim.Native.Nat.{_+_, _^_, _≤_}
 use native.Mathlib.Omega.{arith}
-use Rattle.fractions.proofs.Sides.{lower-of, upper-of, both-of}
 use Rattle.balance.specs.Provided.{filmBounds, provided}
 use Rattle.balance.specs.Prepared.{provision}
 use Rattle.balance.proofs.Sizes.{film-small}
@@ -18,15 +17,14 @@ film-is : (c : tie.Start) → c .args .self .film ≡ filmBounds (c .args .self 
 unfolding provision
 film-is c = λ j. c .pre .1 j .film
 
+film-fits : (c : tie.Start) → (c .args .self .film .lower ≤ 2 ^ 62) × (c .args .self .film .upper ≤ 2 ^ 62)
+film-fits c = rw (film-is c) (film-small (c .args .self .line) (c .pre .0))
+
 add-t4 : tie.Need-add-t4
-add-t4 c =
-    let start = c .before .before .before in
-    omega (arith, c .before .before .insulation .ensures .1, lower-of (film-is start), film-small (start .args .self .line) (start .pre .0) .0)
+add-t4 c = omega (arith, c .before .before .insulation .ensures, film-fits (c .before .before .before))
 
 add-t5 : tie.Need-add-t5
-add-t5 c =
-    let start = c .before .before .before .before .before in
-    omega (arith, c .before .before .before .before .insulation .ensures .2, upper-of (film-is start), film-small (start .args .self .line) (start .pre .0) .1)
+add-t5 c = omega (arith, c .before .before .before .before .insulation .ensures, film-fits (c .before .before .before .before .before))
 
 returns : tie.Need-returns
 unfolding provided
