@@ -1,8 +1,8 @@
 -- What a thickness provides: the whole-number figures enclose it on every cutting, and it grows with the thickness.
 -- Assumes nothing.
 use mathlib.Core.Path.{_≡_}
-use Prim.Native.Nat.{ℕ, _+_, _*_, _^_, _≤_, _<_}
-use native.Mathlib.Nat.{le-refl, mul-pos, mul-le-mul, mul-le-mul-left, mul-le-mul-right}
+use Prim.Native.Nat.{ℕ, _+_, _^_, _≤_, _<_}
+use native.Mathlib.Nat.{le-refl, mul-pos, mul-le-mul, mul-le-mul-right}
 use native.Mathlib.Omega.{arith}
 use Rattle.fractions.specs.Fraction.{Fraction, _over_, plus, _≼_}
 use Rattle.fractions.specs.Rounding.{floor, ceiling}
@@ -11,7 +11,7 @@ use Rattle.fractions.proofs.Rounding.{floor-below, ceiling-above}
 use Rattle.quadrature.specs.Units.{outerDiameter}
 use Rattle.quadrature.specs.Figures.{lowerLog, upperLog}
 use Rattle.quadrature.specs.Cuttings.{midpoint, lowerSum, upperSum}
-use Rattle.quadrature.proofs.Enclosure.{Enclosed, enclosed, sum-mono, lower-den, upper-den}
+use Rattle.quadrature.proofs.Enclosure.{enclosed, sum-mono, lower-den, upper-den}
 use Rattle.balance.specs.declared.line.Line.{Line}
 use Rattle.balance.specs.declared.line.Shape.{Shape}
 use Rattle.balance.specs.declared.line.Shape.the-variants.{Cylinder, Flat}

@@ -8,7 +8,6 @@ use native.Mathlib.Omega.{arith}
 use lib.Dec.{leb, ltb}
 use borrow.Author.Tests.{leb-true, ltb-true}
 use Rattle.fractions.specs.declared.Bounds.{Bounds}
-use Rattle.fractions.specs.Fraction.{_over_}
 use Rattle.quadrature.specs.Ladder.{thicknessAt}
 use Rattle.quadrature.specs.Cuttings.{lowerSum, upperSum}
 use Rattle.balance.specs.declared.line.Line.{Line}

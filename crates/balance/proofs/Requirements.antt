@@ -1,6 +1,6 @@
 -- A requirement and the whole numbers that enclose it: what is at or above the upper one meets it, what is below the lower one misses it.
 -- Assumes nothing.
-use Prim.Native.Nat.{ℕ, _*_, _≤_, _<_}
+use Prim.Native.Nat.{ℕ, _≤_, _<_}
 use native.Mathlib.Nat.{mul-pos, mul-le-mul, mul-le-mul-right, lt-of-not-le, not-le-of-lt}
 use native.Mathlib.Omega.{arith}
 use Rattle.fractions.specs.Fraction.{Fraction, _over_, _≼_}

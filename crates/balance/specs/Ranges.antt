@@ -1,6 +1,6 @@
 -- The ranges within which the figures fit 64 bits: those of 01, "The sheet: 24 bytes", as far as they matter here.
 -- Assumes nothing.
-use Prim.Native.Nat.{ℕ, _≤_}
+use Prim.Native.Nat.{_≤_}
 use Rattle.balance.specs.declared.line.Line.{Line}
 use Rattle.balance.specs.declared.goal.Costs.{Costs}
 use Rattle.balance.specs.declared.goal.Goal.{Goal}

@@ -6,7 +6,6 @@ use Rattle.fractions.specs.Fraction.{Fraction, _over_}
 use Rattle.fractions.specs.Rounding.{rounded}
 use Rattle.roots.specs.Root.{rootBounds}
 use Rattle.balance.specs.declared.line.Line.{Line}
-use Rattle.balance.specs.declared.goal.Costs.{Costs}
 use Rattle.balance.specs.declared.goal.Goal.{Goal}
 use Rattle.balance.specs.declared.goal.Goal.the-variants.{Economy, Loss, Surface}
 use Rattle.balance.specs.declared.line.Shape.{Shape}

@@ -1,12 +1,11 @@
 -- Demands 2 and 3 of a sheet, as `specs/Demands.antt` states them.
 -- Assumes nothing.
-use mathlib.Core.Path.{_≡_, refl, sym, _∙_, ap}
+use mathlib.Core.Path.{_≡_, refl, _∙_, ap}
 use mathlib.Core.Bool.{Bool, true, false}
 use mathlib.Core.List.{List, [], _∷_}
-use Prim.Native.Nat.{ℕ, _+_, _*_, _/_, _%_, _^_, _≤_, _<_}
+use Prim.Native.Nat.{ℕ, _+_, _*_, _/_, _%_, _≤_, _<_}
 use native.Mathlib.Nat.{mod-eq-of-lt, div-add-mod'}
 use native.Mathlib.Omega.{arith}
-use lib.ListN.{getD}
 use lib.Dec.{eqb}
 use borrow.Author.Tests.{eqb-true, eqb-false, eq-eqb, ne-eqb}
 use Rattle.quadrature.specs.Ladder.{rungs, thicknessAt}
@@ -21,7 +20,7 @@ use Rattle.sheet.specs.Bytes.{number, bytesOf}
 use Rattle.sheet.specs.Sheet.{decoded, difference, goalOf}
 use Rattle.sheet.specs.Search.{requires, verdictAt, chosen}
 use Rattle.sheet.specs.Answer.{answer, answerOf}
-use Rattle.sheet.specs.Refusals.{Case, case, firstHolding, fieldCases, ladderCases, isUndecided, refusal}
+use Rattle.sheet.specs.Refusals.{case, firstHolding, fieldCases, ladderCases, isUndecided, refusal}
 use Rattle.sheet.specs.Demands.{NoneHolds, StatedCases, Demand3}
 use Rattle.sheet.proofs.Cases.{absent, first-later, first-after}
 use Rattle.sheet.proofs.Admitted.{Admitted, admitted}

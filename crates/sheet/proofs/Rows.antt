@@ -1,6 +1,6 @@
 -- The table of limits: where the row below a temperature stands, and what the code's table holds there.
 -- Assumes nothing.
-use mathlib.Core.Path.{_≡_, refl, ap, _∙_}
+use mathlib.Core.Path.{_≡_, refl, _∙_}
 use mathlib.Core.Bool.{Bool, true, false, cond, _&&_}
 use mathlib.Core.List.{List, [], _∷_, map}
 use Prim.Native.Nat.{ℕ, zero, suc, _+_, _-_, _*_, _/_, _≤_, _<_}
@@ -10,7 +10,7 @@ use lib.Dec.{leb, eqb}
 use lib.ListN.{length, getD}
 use borrow.Author.Tests.{leb-true, leb-false, eqb-true}
 use Rattle.sheet.specs.Bytes.{zeroDegrees}
-use Rattle.sheet.specs.Limits.{Row, table, unprinted, column, highestNotAbove, lossLimit}
+use Rattle.sheet.specs.Limits.{Row, table, unprinted, column, highestNotAbove}
 use Rattle.sheet.proofs.Cases.{and-both}
 
 -- A row as the code holds it, and what is read there.

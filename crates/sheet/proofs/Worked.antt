@@ -8,7 +8,6 @@ use native.Mathlib.Omega.{arith}
 use lib.Dec.{ltb}
 use lib.ListN.{take}
 use borrow.Author.Tests.{le-ltb}
-use Rattle.quadrature.specs.Sums.{summed}
 use Rattle.quadrature.specs.Figures.{lowerStep, upperStep}
 use Rattle.quadrature.proofs.Sums.{log-self}
 use Rattle.roots.specs.Least.{least}

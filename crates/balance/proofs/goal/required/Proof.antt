@@ -6,7 +6,6 @@ use native.Mathlib.Nat.{mul-pos, mul-le-mul}
 use native.Mathlib.Omega.{arith}
 use Rattle.fractions.specs.Fraction.{_over_}
 use Rattle.fractions.specs.Rounding.{rounded}
-use Rattle.balance.specs.Ranges.{GoalInRange}
 use Rattle.balance.specs.Required.{requirement, enclosing}
 use borrow.Author.Needs.{needs}
 use Rattle.balance.proofs.goal.required.Statement.{statement}

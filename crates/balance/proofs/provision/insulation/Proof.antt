@@ -1,7 +1,6 @@
 -- What insulation provides meets its contract, on a pipe and on a flat wall.
 -- Assumes nothing.
 use mathlib.Core.Path.{_≡_, sym, _∙_}
-use native.Mathlib.Omega.{arith}
 use Rattle.balance.specs.declared.line.Shape.the-variants.{Cylinder, Flat}
 use Rattle.balance.specs.Line.{shapeOf}
 use Rattle.balance.specs.Prepared.{innerLog, provision}

@@ -1,11 +1,9 @@
 -- `sheet::loss_limit` meets its contract.
 -- Assumes nothing.
-use mathlib.Core.Path.{_≡_, sym, ap, _∙_}
-use mathlib.Core.List.{_∷_}
+use mathlib.Core.Path.{_≡_, ap, _∙_}
 use Prim.Native.Nat.{ℕ, suc, _-_, _*_, _/_}
 use native.Mathlib.Omega.{arith}
-use lib.ListN.{getD}
-use Rattle.sheet.specs.Limits.{table, unprinted, column, lossLimit}
+use Rattle.sheet.specs.Limits.{lossLimit}
 use Rattle.sheet.proofs.Rows.{no-limit, row-below}
 use borrow.Author.Needs.{needs}
 use Rattle.sheet.proofs.limits.loss_limit.Statement.{statement}

@@ -1,6 +1,5 @@
 -- The limit in a row and a column meets its contract: the code's table is the printed one.
 -- Assumes nothing.
-use Prim.Native.Nat.{_≤_}
 use native.Mathlib.Omega.{arith}
 use Rattle.sheet.specs.Limits.{table}
 use Rattle.sheet.proofs.Rows.{read, limit-small}
