@@ -13,9 +13,10 @@ use Rattle.balance.specs.declared.goal.Goal.the-variants.{Economy, Loss, Surfac
 use Rattle.balance.specs.Ranges.{LineInRange, GoalInRange}
 use Rattle.sheet.specs.declared.fields.Sheet.{Sheet}
 use Rattle.sheet.specs.Sheet.{decoded, difference, surfaceAim, goalOf}
-use Rattle.sheet.specs.Refusals.{outside, anyOutside, field, economyFields, aimRefused, fieldCases}
-use Rattle.sheet.specs.Demands.{NoneHolds}
-use Rattle.sheet.proofs.Cases.{and-both, or-false-both, within, inside}
+use Rattle.sheet.specs.Ranges.{anyOutside, economyFields}
+use Rattle.sheet.specs.Cases.{NoneHolds}
+use Rattle.sheet.specs.Refusals.{aimRefused, fieldCases}
+use Rattle.sheet.proofs.Cases.{and-both, or-false-both, inside}
 
 pub record Admitted (s : Sheet) : Type 0 where
   pub line : LineInRange (s .line)
@@ -57,7 +58,7 @@ pub admitted : (bytes : List ℕ) → NoneHolds (fieldCases bytes) → Admitted 
 unfolding NoneHolds
 admitted bytes f =
     let s = decoded bytes in
-    let code = within (field 0 (s .goal) 1 3) (or-false-both (outside (field 0 (s .goal) 1 3)) _ (f .1 .0) .0) in
+    let code = inside _ _ (f .1 .0) in
     let diameter = inside _ _ (f .1 .1 .0) in
     let temperature = inside _ _ (diameter .rest) in
     let ambient = inside _ _ (temperature .rest) in
@@ -69,5 +70,5 @@ admitted bytes f =
       line = record { diameter = diameter .least; conductivity = conductivity .most; some-coefficient = omega arith; coefficient = coefficient .most };
       warmer = warmer;
       difference = near;
-      goal = goal-in-range s (eqb (s .goal) 1) (eqb (s .goal) 2) refl refl (coefficient .rest) near (code .0) (code .1) (f .1 .1 .1 .1 .1 .0);
+      goal = goal-in-range s (eqb (s .goal) 1) (eqb (s .goal) 2) refl refl (coefficient .rest) near (code .least) (code .most) (f .1 .1 .1 .1 .1 .0);
     }

@@ -6,8 +6,8 @@ use mathlib.Core.List.{List, [], _∷_, _++_}
 use Prim.Native.Nat.{ℕ, _≤_}
 use lib.Dec.{eqb, ltb}
 use borrow.Author.Tests.{eq-eqb, ltb-false}
-use Rattle.sheet.specs.Refusals.{Case, case, firstHolding, Field, outside, anyOutside}
-use Rattle.sheet.specs.Demands.{NoneHolds}
+use Rattle.sheet.specs.Ranges.{Field, outside, anyOutside}
+use Rattle.sheet.specs.Cases.{Case, case, firstHolding, NoneHolds}
 
 pub and-both : (a b : Bool) → a && b ≡ true → (a ≡ true) × (b ≡ true)
 and-both true b e = (refl, e)

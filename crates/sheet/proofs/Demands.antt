@@ -20,8 +20,9 @@ use Rattle.sheet.specs.Bytes.{number, bytesOf}
 use Rattle.sheet.specs.Sheet.{decoded, difference, goalOf}
 use Rattle.sheet.specs.Search.{requires, verdictAt, chosen}
 use Rattle.sheet.specs.Answer.{answer, answerOf}
-use Rattle.sheet.specs.Refusals.{case, firstHolding, fieldCases, ladderCases, isUndecided, refusal}
-use Rattle.sheet.specs.Demands.{NoneHolds, StatedCases, Demand3}
+use Rattle.sheet.specs.Refusals.{fieldCases, ladderCases, isUndecided, refusal}
+use Rattle.sheet.specs.Cases.{case, firstHolding, NoneHolds}
+use Rattle.sheet.specs.Demands.{StatedCases, Demand3}
 use Rattle.sheet.proofs.Cases.{absent, first-later, first-after}
 use Rattle.sheet.proofs.Admitted.{Admitted, admitted}
 

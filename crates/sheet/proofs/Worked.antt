@@ -19,8 +19,9 @@ use Rattle.sheet.specs.Bytes.{number, bytesOf}
 use Rattle.sheet.specs.Sheet.{decoded, surfaceAim}
 use Rattle.sheet.specs.Limits.{highestNotAbove, lossLimit}
 use Rattle.sheet.specs.Answer.{lossCheck, surfaceCheck, surfaceBound, answerOf}
-use Rattle.sheet.specs.Refusals.{case, anyOutside, aimRefused, firstHolding, fieldCases, ladderCases, refusal}
-use Rattle.sheet.specs.Demands.{NoneHolds}
+use Rattle.sheet.specs.Refusals.{aimRefused, fieldCases, ladderCases, refusal}
+use Rattle.sheet.specs.Ranges.{anyOutside}
+use Rattle.sheet.specs.Cases.{case, firstHolding, NoneHolds}
 use Rattle.sheet.specs.Worked.{Worked}
 use Rattle.sheet.proofs.Cases.{first-after}
 

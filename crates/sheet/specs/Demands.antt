@@ -2,9 +2,8 @@
 -- Assumes nothing.
 use Prim.Native.Nat.{ℕ, _-_, _≤_, _<_}
 use mathlib.Core.Path.{_≡_}
-use mathlib.Core.Bool.{false}
 use mathlib.Core.Logic.{_⊎_, _↔_}
-use mathlib.Core.List.{List, [], _∷_}
+use mathlib.Core.List.{List}
 use Rattle.quadrature.specs.Ladder.{rungs, thicknessAt}
 use Rattle.quadrature.specs.Cuttings.{lowerSum, upperSum}
 use Rattle.balance.specs.declared.verdict.Verdict.the-variants.{Insufficient, Undecided}
@@ -13,12 +12,8 @@ use Rattle.sheet.specs.Bytes.{number}
 use Rattle.sheet.specs.Sheet.{decoded, goalOf}
 use Rattle.sheet.specs.Search.{requires, verdictAt}
 use Rattle.sheet.specs.Answer.{answer}
-use Rattle.sheet.specs.Refusals.{Case, fieldCases, refusal}
-
--- no case of a list holds
-unfoldable pub NoneHolds : List Case → Type 0
-NoneHolds [] = Unit {0}
-NoneHolds (c ∷ cs) = (c .holds ≡ false) × NoneHolds cs
+use Rattle.sheet.specs.Cases.{NoneHolds}
+use Rattle.sheet.specs.Refusals.{fieldCases, refusal}
 
 -- Demand 2: "refusals 17 and 18 come in their stated cases only". Refusal 17: the cases 11 to 16 fail and all 31 rungs miss. Refusal 18: they
 -- fail, and some rung is open while every rung below it misses.

@@ -1,8 +1,10 @@
 pub mod Bytes
 pub mod Sheet
+pub mod Ranges
 pub mod Search
 pub mod Limits
 pub mod Answer
+pub mod Cases
 pub mod Refusals
 pub mod Demands
 pub mod Worked

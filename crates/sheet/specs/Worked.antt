@@ -14,7 +14,7 @@ use Rattle.sheet.specs.Search.{requires}
 use Rattle.sheet.specs.Limits.{lossLimit, surfaceLimit}
 use Rattle.sheet.specs.Answer.{answer}
 use Rattle.sheet.specs.Refusals.{fieldCases, refusal}
-use Rattle.sheet.specs.Demands.{NoneHolds}
+use Rattle.sheet.specs.Cases.{NoneHolds}
 
 -- "Sheet F: goal 2, service 1, line 7, D 12,000, t 1,300, ta 200, L 400, α 800, aim 800", for any goal and aim
 abbrev pub sheetF : ℕ → ℕ → List ℕ
@@ -27,11 +27,11 @@ sheetG =
     2 ∷ 1 ∷ (bytesOf 2 9 ++ bytesOf 2 10_001 ++ bytesOf 2 300 ++ bytesOf 2 200 ++ bytesOf 2 400 ++ bytesOf 2 1_163 ++ bytesOf 8 0 ++ bytesOf 2 1_163)
 
 -- have at k mm and need, each from below and above
-abbrev have : List ℕ → ℕ → Bounds
-have sheet k = provided (decoded sheet .line) k
+abbrev providedAt : List ℕ → ℕ → Bounds
+providedAt sheet k = provided (decoded sheet .line) k
 
-abbrev need : List ℕ → Bounds
-need sheet = let s = decoded sheet in enclosing (requires s (goalOf s))
+abbrev requiredBy : List ℕ → Bounds
+requiredBy sheet = let s = decoded sheet in enclosing (requires s (goalOf s))
 
 abbrev bounds : ℕ → ℕ → Bounds
 bounds l u = record { lower = l; upper = u }
@@ -46,13 +46,13 @@ pub record Worked : Type 0 where
   pub p2 : upperStep 100 ≡ 9_950_495_050
   pub p3 : (D : ℕ) → (lowerLog D D ≡ 0) × (upperLog D D ≡ 0)
   -- "P4: have at 50 mm is 55,000,000 = need, so 50."
-  pub p4 : (have (sheetF 2 800) 50 ≡ bounds 55_000_000 55_000_000) × (need (sheetF 2 800) ≡ bounds 55_000_000 55_000_000) × Gives (sheetF 2 800) 50
+  pub p4 : (providedAt (sheetF 2 800) 50 ≡ bounds 55_000_000 55_000_000) × (requiredBy (sheetF 2 800) ≡ bounds 55_000_000 55_000_000) × Gives (sheetF 2 800) 50
   -- "P5: aim 799: need between 55,068,836 and 55,068,837, so 60. P6: aim 145: 300. P7: aim 144: refusal 17."
-  pub p5 : (need (sheetF 2 799) ≡ bounds 55_068_836 55_068_837) × Gives (sheetF 2 799) 60
+  pub p5 : (requiredBy (sheetF 2 799) ≡ bounds 55_068_836 55_068_837) × Gives (sheetF 2 799) 60
   pub p6 : Gives (sheetF 2 145) 300
   pub p7 : refusal (sheetF 2 144) ≡ 17
   -- "P8: … at 0 mm under-have 3,439,380, over-have and high need 3,439,381, low need 3,439,380: refusal 18."
-  pub p8 : (have sheetG 0 ≡ bounds 3_439_380 3_439_381) × (need sheetG ≡ bounds 3_439_380 3_439_381) × (refusal sheetG ≡ 18)
+  pub p8 : (providedAt sheetG 0 ≡ bounds 3_439_380 3_439_381) × (requiredBy sheetG ≡ bounds 3_439_380 3_439_381) × (refusal sheetG ≡ 18)
   -- "P9: goal 3, aim = t: 16.": of sheet F, and of every sheet for which no earlier case holds
   pub p9 :
       (refusal (sheetF 3 1_300) ≡ 16) ×

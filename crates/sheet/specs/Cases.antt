@@ -1,0 +1,24 @@
+-- Refusals as numbered cases, of which the first that holds counts.
+-- Assumes nothing.
+use Prim.Native.Nat.{ℕ}
+use mathlib.Core.Path.{_≡_}
+use mathlib.Core.Bool.{Bool, true, false}
+use mathlib.Core.List.{List, [], _∷_}
+
+-- a refusal's number, and whether its case holds
+pub record Case : Type 0 where
+  pub number : ℕ
+  pub holds : Bool
+
+abbrev pub case : ℕ → Bool → Case
+case n b = record { number = n; holds = b }
+
+-- the number of the first case that holds, 0 where none does
+unfoldable pub firstHolding : List Case → ℕ
+firstHolding [] = 0
+firstHolding (c ∷ cs) = elim (c .holds) [ true ↦ c .number | false ↦ firstHolding cs ]
+
+-- no case of a list holds
+unfoldable pub NoneHolds : List Case → Type 0
+NoneHolds [] = Unit {0}
+NoneHolds (c ∷ cs) = (c .holds ≡ false) × NoneHolds cs

@@ -1,0 +1,54 @@
+-- The ranges of a sheet's fields. 01, "The sheet: 24 bytes".
+-- Assumes nothing.
+use Prim.Native.Nat.{ℕ, _+_, _-_}
+use mathlib.Core.Bool.{Bool, false, _||_, cond}
+use mathlib.Core.List.{List, [], _∷_}
+use lib.Dec.{ltb, eqb}
+use Rattle.sheet.specs.declared.fields.Sheet.{Sheet}
+use Rattle.sheet.specs.Bytes.{zeroDegrees}
+
+-- a field: its offset, its value and its range
+pub record Field : Type 0 where
+  pub offset : ℕ
+  pub value : ℕ
+  pub least : ℕ
+  pub most : ℕ
+
+abbrev pub field : ℕ → ℕ → ℕ → ℕ → Field
+field o x l m = record { offset = o; value = x; least = l; most = m }
+
+abbrev pub outside : Field → Bool
+outside f = ltb (f .value) (f .least) || ltb (f .most) (f .value)
+
+unfoldable pub anyOutside : List Field → Bool
+anyOutside [] = false
+anyOutside (f ∷ fs) = outside f || anyOutside fs
+
+-- "1 economy, 2 loss, 3 surface", "1 year-round, 2 seasonal"
+abbrev pub codes : Sheet → List Field
+codes s = field 0 (s .goal) 1 3 ∷ field 1 (s .service) 1 2 ∷ []
+
+abbrev pub isEconomy : Sheet → Bool
+isEconomy s = eqb (s .goal) 1
+
+-- "Offsets 14–21 are used for goal 1 only": their ranges
+abbrev pub economyFields : Sheet → List Field
+economyFields s =
+    field 14 (s .costs .heat) 1 65_535 ∷ field 16 (s .costs .hours) 1 8_784 ∷ field 18 (s .costs .insulation) 1 65_535 ∷
+    field 20 (s .costs .share) 1 10_000 ∷ []
+
+-- the table's ranges; "their ranges then not applying"
+abbrev pub ranges : Sheet → List Field
+ranges s =
+    field 4 (s .line .diameter .0) 100 65_535 ∷
+    field 6 (s .temperature) (zeroDegrees - 500) (zeroDegrees + 6_500) ∷
+    field 8 (s .ambient) (zeroDegrees - 500) (zeroDegrees + 500) ∷
+    field 10 (s .line .conductivity) 1 2_000 ∷
+    field 12 (s .line .coefficient) 100 10_000 ∷
+    cond (isEconomy s) (economyFields s) []
+
+-- "and are zero otherwise", "The aim is zero for goal 1."
+abbrev pub mustBeZero : Sheet → List Field
+mustBeZero s =
+    cond (isEconomy s) (field 22 (s .aim) 0 0 ∷ [])
+    (field 14 (s .costs .heat) 0 0 ∷ field 16 (s .costs .hours) 0 0 ∷ field 18 (s .costs .insulation) 0 0 ∷ field 20 (s .costs .share) 0 0 ∷ [])
