@@ -46,14 +46,9 @@ pub or-false-both : (a b : Bool) → a || b ≡ false → (a ≡ false) × (b �
 or-false-both true b e = absurd (true≢false e)
 or-false-both false b e = (refl, e)
 
-pub within : (f : Field) → outside f ≡ false → (f .least ≤ f .value) × (f .value ≤ f .most)
-within f e =
-    let ends = or-false-both (ltb (f .value) (f .least)) (ltb (f .most) (f .value)) e in
-    (ltb-false _ _ (ends .0), ltb-false _ _ (ends .1))
-
 pub inside : (f : Field) (fs : List Field) → anyOutside (f ∷ fs) ≡ false → Inside f fs
 unfolding anyOutside
 inside f fs e =
     let parts = or-false-both (outside f) (anyOutside fs) e in
-    let ends = within f (parts .0) in
-    record { least = ends .0; most = ends .1; rest = parts .1 }
+    let ends = or-false-both (ltb (f .value) (f .least)) (ltb (f .most) (f .value)) (parts .0) in
+    record { least = ltb-false _ _ (ends .0); most = ltb-false _ _ (ends .1); rest = parts .1 }
