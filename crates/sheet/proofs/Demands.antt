@@ -18,11 +18,11 @@ use Rattle.balance.proofs.Judgement.{MeetsOn, MissesOn, meets-stays, sound}
 use Rattle.sheet.specs.declared.fields.Sheet.{Sheet}
 use Rattle.sheet.specs.Bytes.{number, bytesOf}
 use Rattle.sheet.specs.Sheet.{decoded, difference, goalOf}
-use Rattle.sheet.specs.Search.{requires, verdictAt, chosen}
+use Rattle.sheet.specs.Search.{requires, verdicts, chosen}
 use Rattle.sheet.specs.Answer.{answer, answerOf}
 use Rattle.sheet.specs.Refusals.{fieldCases, ladderCases, isUndecided, refusal}
 use Rattle.sheet.specs.Cases.{case, firstHolding, NoneHolds}
-use Rattle.sheet.specs.Demands.{StatedCases, Demand3}
+use Rattle.sheet.specs.Demands.{AllInsufficient, FirstUndecided, StatedCases, Demand3}
 use Rattle.sheet.proofs.Cases.{absent, first-later, first-after}
 use Rattle.sheet.proofs.Admitted.{Admitted, admitted}
 
@@ -30,7 +30,7 @@ use Rattle.sheet.proofs.Admitted.{Admitted, admitted}
 pub record Answered (bytes : List ℕ) : Type 0 where
   pub admitted : Admitted (decoded bytes)
   pub found : chosen (decoded bytes) < rungs
-  pub enough : verdictAt (decoded bytes) (goalOf (decoded bytes)) (chosen (decoded bytes)) ≡ Sufficient
+  pub enough : verdicts (decoded bytes) (chosen (decoded bytes)) ≡ Sufficient
 
 sufficient : (x : Verdict) → notInsufficient x ≡ true → isUndecided x ≡ false → x ≡ Sufficient
 sufficient Sufficient t u = refl
@@ -41,7 +41,7 @@ pub answered : (bytes : List ℕ) → refusal bytes ≡ 0 → Answered bytes
 unfolding absent NoneHolds
 answered bytes h =
     let s = decoded bytes in
-    let v = verdictAt s (goalOf s) in
+    let v = verdicts s in
     let early = first-later 0 (fieldCases bytes) (ladderCases bytes) refl h in
     let late = first-later 0 (ladderCases bytes) [] refl (early .1) .0 in
     let not-all : ¬ (chosen s ≡ rungs) = eqb-false _ _ (late .0) in
@@ -67,7 +67,7 @@ demand-3 bytes h m hm r lt =
     let proper = in-range-proper (s .line) (difference s) (goalOf s) (in-range .line) (in-range .goal) in
     let α = in-range .line .some-coefficient in
     let D : 1 ≤ s .line .diameter .0 = omega arith in
-    let law = least-anywhere (verdictAt s (goalOf s)) (MeetsOn m (s .line) q) (MissesOn m (s .line) q) (sound (s .line) q proper m α D hm) (a .enough) (meets-stays (s .line) q proper m α D hm) r in
+    let law = least-anywhere (verdicts s) (MeetsOn m (s .line) q) (MissesOn m (s .line) q) (sound (s .line) q proper m α D hm) (a .enough) (meets-stays (s .line) q proper m α D hm) r in
     let is = answer-thickness s (chosen s) in
     (λ e. law .0 (omega (arith, a .found)), λ e. is ∙ ap thicknessAt (law .1 e))
 
@@ -91,43 +91,36 @@ undecided Undecided e = refl
 
 module _ (sheet : List ℕ) where
   abbrev v : ℕ → Verdict
-  v = verdictAt (decoded sheet) (goalOf (decoded sheet))
+  v = verdicts (decoded sheet)
 
   abbrev c : ℕ
   c = chosen (decoded sheet)
 
-  AllMiss : Type 0
-  AllMiss = (r : ℕ) → r < rungs → v r ≡ Insufficient
-
-  FirstOpen : Type 0
-  FirstOpen = (r : ℕ) × (r < rungs) × (v r ≡ Undecided) × ((i : ℕ) → i < r → v i ≡ Insufficient)
-
-  only-17 : refusal sheet ≡ 17 → NoneHolds (fieldCases sheet) × AllMiss
-  unfolding absent AllMiss
+  only-17 : refusal sheet ≡ 17 → NoneHolds (fieldCases sheet) × AllInsufficient v
+  unfolding absent
   only-17 h =
       let got = first-later 17 (fieldCases sheet) (ladderCases sheet) refl h in
       let all : c ≡ rungs = eqb-true _ _ (seventeen-holds (eqb c rungs) (isUndecided (v c)) (got .1)) in
       (got .0, λ r lt. misses-before v r (omega arith))
 
-  when-17 : NoneHolds (fieldCases sheet) × AllMiss → refusal sheet ≡ 17
-  unfolding firstHolding AllMiss
+  when-17 : NoneHolds (fieldCases sheet) × AllInsufficient v → refusal sheet ≡ 17
+  unfolding firstHolding
   when-17 h = first-after (fieldCases sheet) (ladderCases sheet) (h .0) ∙ rw (eq-eqb c rungs (first-none v (h .1)))
 
-  only-18 : refusal sheet ≡ 18 → NoneHolds (fieldCases sheet) × FirstOpen
-  unfolding absent FirstOpen
+  only-18 : refusal sheet ≡ 18 → NoneHolds (fieldCases sheet) × FirstUndecided v
+  unfolding absent
   only-18 h =
       let got = first-later 18 (fieldCases sheet) (ladderCases sheet) refl h in
       let holds = eighteen-holds (eqb c rungs) (isUndecided (v c)) (got .1) in
       let some : ¬ (c ≡ rungs) = eqb-false _ _ (holds .0) in
       (got .0, (c, omega (arith, first-within v), undecided (v c) (holds .1), misses-before v))
 
-  when-18 : NoneHolds (fieldCases sheet) × FirstOpen → refusal sheet ≡ 18
-  unfolding firstHolding FirstOpen
+  when-18 : NoneHolds (fieldCases sheet) × FirstUndecided v → refusal sheet ≡ 18
+  unfolding firstHolding
   when-18 h =
       let r = h .1 .0 in
       let is : c ≡ r = first-is v r (h .1 .1) (ap notInsufficient (h .1 .2)) (h .1 .3) in
       first-after (fieldCases sheet) (ladderCases sheet) (h .0) ∙ rw (is, ne-eqb r rungs (λ e. omega (arith, h .1 .1)), h .1 .2)
 
 pub stated-cases : (sheet : List ℕ) → StatedCases sheet
-unfolding AllMiss FirstOpen
 stated-cases sheet = record { seventeen = (only-17 sheet, when-17 sheet); eighteen = (only-18 sheet, when-18 sheet) }

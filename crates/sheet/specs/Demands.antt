@@ -6,26 +6,28 @@ use mathlib.Core.Logic.{_⊎_, _↔_}
 use mathlib.Core.List.{List}
 use Rattle.quadrature.specs.Ladder.{rungs, thicknessAt}
 use Rattle.quadrature.specs.Cuttings.{lowerSum, upperSum}
+use Rattle.balance.specs.declared.verdict.Verdict.{Verdict}
 use Rattle.balance.specs.declared.verdict.Verdict.the-variants.{Insufficient, Undecided}
 use Rattle.balance.specs.Exact.{providedExactly, Meets, Misses}
 use Rattle.sheet.specs.Bytes.{number}
 use Rattle.sheet.specs.Sheet.{decoded, goalOf}
-use Rattle.sheet.specs.Search.{requires, verdictAt}
+use Rattle.sheet.specs.Search.{requires, verdicts}
 use Rattle.sheet.specs.Answer.{answer}
 use Rattle.sheet.specs.Cases.{NoneHolds}
 use Rattle.sheet.specs.Refusals.{fieldCases, refusal}
 
--- Demand 2: "refusals 17 and 18 come in their stated cases only". Refusal 17: the cases 11 to 16 fail and all 31 rungs miss. Refusal 18: they
--- fail, and some rung is open while every rung below it misses.
+-- all 31 rungs miss
+abbrev pub AllInsufficient : (ℕ → Verdict) → Type 0
+AllInsufficient v = (r : ℕ) → r < rungs → v r ≡ Insufficient
+
+-- some rung is open, and every rung below it misses
+abbrev pub FirstUndecided : (ℕ → Verdict) → Type 0
+FirstUndecided v = (r : ℕ) × (r < rungs) × (v r ≡ Undecided) × ((i : ℕ) → i < r → v i ≡ Insufficient)
+
+-- Demand 2: "refusals 17 and 18 come in their stated cases only".
 pub record StatedCases (sheet : List ℕ) : Type 0 where
-  pub seventeen :
-      let s = decoded sheet in
-      (refusal sheet ≡ 17) ↔ (NoneHolds (fieldCases sheet) × ((r : ℕ) → r < rungs → verdictAt s (goalOf s) r ≡ Insufficient))
-  pub eighteen :
-      let s = decoded sheet in
-      (refusal sheet ≡ 18) ↔
-      (NoneHolds (fieldCases sheet) ×
-      ((r : ℕ) × (r < rungs) × (verdictAt s (goalOf s) r ≡ Undecided) × ((i : ℕ) → i < r → verdictAt s (goalOf s) i ≡ Insufficient)))
+  pub seventeen : (refusal sheet ≡ 17) ↔ (NoneHolds (fieldCases sheet) × AllInsufficient (verdicts (decoded sheet)))
+  pub eighteen : (refusal sheet ≡ 18) ↔ (NoneHolds (fieldCases sheet) × FirstUndecided (verdicts (decoded sheet)))
 
 -- Demand 3: "For every answered sheet, every cutting of the logarithm's area that the paper allows, however fine, and every rung of the
 -- ladder: that rung equals the thickness we give exactly when it meets the exact equation on that cutting's under-sum and the rung below

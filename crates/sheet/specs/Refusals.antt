@@ -9,9 +9,9 @@ use Rattle.quadrature.specs.Ladder.{rungs}
 use Rattle.balance.specs.declared.verdict.Verdict.{Verdict}
 use Rattle.balance.specs.declared.verdict.Verdict.the-variants.{Sufficient, Insufficient, Undecided}
 use Rattle.sheet.specs.declared.fields.Sheet.{Sheet}
-use Rattle.sheet.specs.Sheet.{decoded, surfaceAim, goalOf}
+use Rattle.sheet.specs.Sheet.{decoded, surfaceAim}
 use Rattle.sheet.specs.Ranges.{anyOutside, codes, ranges, mustBeZero}
-use Rattle.sheet.specs.Search.{verdictAt, chosen}
+use Rattle.sheet.specs.Search.{verdicts, chosen}
 use Rattle.sheet.specs.Cases.{Case, case, firstHolding}
 
 -- "16: goal 2 with aim 0; goal 3 unless ta < aim < t."
@@ -49,7 +49,7 @@ ladderCases bytes =
     -- "17: all 31 rungs miss."
     case 17 (eqb (chosen s) rungs) ∷
     -- "18: the first rung that doesn't miss is open."
-    case 18 (isUndecided (verdictAt s (goalOf s) (chosen s))) ∷
+    case 18 (isUndecided (verdicts s (chosen s))) ∷
     []
 
 abbrev pub refusal : List ℕ → ℕ

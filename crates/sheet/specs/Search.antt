@@ -16,6 +16,10 @@ requires s goal = requirement (s .line) (difference s) goal
 abbrev pub verdictAt : Sheet → Goal → ℕ → Verdict
 verdictAt s goal r = verdictOf (s .line) (requires s goal) r
 
+-- the same against the sheet's own goal
+abbrev pub verdicts : Sheet → ℕ → Verdict
+verdicts s = verdictAt s (goalOf s)
+
 -- "The first rung that doesn't miss is the thickness if it meets.": the index of that rung
 abbrev pub chosen : Sheet → ℕ
-chosen s = firstNotInsufficient (verdictAt s (goalOf s))
+chosen s = firstNotInsufficient (verdicts s)
