@@ -74,14 +74,8 @@ module _ (v : ℕ → Verdict) (M X : ℕ → Type 0) (sound : Sound v M X) (eno
 
   -- nor above it, where no rung above one that meets misses
   pub least-anywhere : ((i j : ℕ) → i ≤ j → M i → X j → ⊥) → (r : ℕ) → (firstNotInsufficient v ≡ r) ↔ Least M X r
-  least-anywhere grows r = (λ e. rw e at found-least, only)
+  least-anywhere grows r = (λ e. rw e at found-least, λ (h : Least M X r). let down = not-after (h .1) in least-up-to r (omega arith) .1 h)
     where
       not-after : (r ≡ 0) ⊎ X (r - 1) → ¬ (firstNotInsufficient v < r)
       not-after (inl e) lt = omega arith
       not-after (inr x) lt = grows _ (r - 1) (omega arith) (sound .meets _ enough) x
-
-      only : Least M X r → firstNotInsufficient v ≡ r
-      only h =
-          let up : ¬ (r < firstNotInsufficient v) = not-before r (h .0) in
-          let down = not-after (h .1) in
-          omega arith

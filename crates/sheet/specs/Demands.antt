@@ -31,7 +31,7 @@ pub record StatedCases (sheet : List ℕ) : Type 0 where
 
 -- Demand 3: "For every answered sheet, every cutting of the logarithm's area that the paper allows, however fine, and every rung of the
 -- ladder: that rung equals the thickness we give exactly when it meets the exact equation on that cutting's under-sum and the rung below
--- it, if there is one, misses it on that cutting's over-sum." "The thickness is bytes 2–3 of the answer, and both rungs are judged by the
+-- it, if there is one, misses it on that cutting's over-sum." "the thickness is bytes 2–3 of the answer, and both rungs are judged by the
 -- sheet's own goal" (01, "Ladder and figures"). On a flat wall `providedExactly` reads no sum: "there the same holds with the exact
 -- equation alone judging both rungs".
 abbrev pub Demand3 : Type 0
