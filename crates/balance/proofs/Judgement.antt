@@ -11,6 +11,7 @@ use Rattle.fractions.specs.declared.Bounds.{Bounds}
 use Rattle.quadrature.specs.Ladder.{thicknessAt}
 use Rattle.quadrature.specs.Cuttings.{lowerSum, upperSum}
 use Rattle.balance.specs.declared.line.Line.{Line}
+use Rattle.balance.specs.declared.verdict.Verdict.{Verdict}
 use Rattle.balance.specs.declared.verdict.Verdict.the-variants.{Sufficient, Insufficient, Undecided}
 use Rattle.balance.specs.Provided.{provided}
 use Rattle.balance.specs.Required.{Requirement, enclosing}
@@ -20,24 +21,19 @@ use Rattle.balance.proofs.Requirements.{Proper, meets-more, misses-less
 use Rattle.balance.proofs.Enclosure.{lower-provided-den, upper-provided-den, provided-below, provided-above, provided-grows}
 use Rattle.balance.proofs.Search.{Sound}
 
-by-test : {A : Type 0} (a b : Bool) (x y z : A) (P : A → Type 0) → (a ≡ true → P x) → (b ≡ true → P y) → P z → P (cond a x (cond b y z))
-by-test true b x y z P f g h = f refl
-by-test false true x y z P f g h = g refl
-by-test false false x y z P f g h = h
+-- what a verdict tells of the bounds
+abbrev Told : Bounds → Bounds → Verdict → Type 0
+Told p q Sufficient = q .upper ≤ p .lower
+Told p q Insufficient = p .upper < q .lower
+Told p q Undecided = Unit {0}
 
-pub sufficient-bounds : (p q : Bounds) → judged p q ≡ Sufficient → q .upper ≤ p .lower
-sufficient-bounds p q =
-    by-test (leb (q .upper) (p .lower)) (ltb (p .upper) (q .lower)) Sufficient Insufficient Undecided (λ x. x ≡ Sufficient → q .upper ≤ p .lower)
-    (λ t e. leb-true _ _ t)
-    (λ t e. let z : _≡_ {A = ℕ} 0 1 = cc in omega arith)
-    (λ e. let z : _≡_ {A = ℕ} 0 1 = cc in omega arith)
-
-pub insufficient-bounds : (p q : Bounds) → judged p q ≡ Insufficient → p .upper < q .lower
-insufficient-bounds p q =
-    by-test (leb (q .upper) (p .lower)) (ltb (p .upper) (q .lower)) Sufficient Insufficient Undecided (λ x. x ≡ Insufficient → p .upper < q .lower)
-    (λ t e. let z : _≡_ {A = ℕ} 0 1 = cc in omega arith)
-    (λ t e. ltb-true _ _ t)
-    (λ e. let z : _≡_ {A = ℕ} 0 1 = cc in omega arith)
+told : (p q : Bounds) → Told p q (judged p q)
+told p q = go (leb (q .upper) (p .lower)) (ltb (p .upper) (q .lower)) refl refl
+  where
+    go : (a b : Bool) → leb (q .upper) (p .lower) ≡ a → ltb (p .upper) (q .lower) ≡ b → Told p q (cond a Sufficient (cond b Insufficient Undecided))
+    go true b e f = leb-true _ _ e
+    go false true e f = ltb-true _ _ f
+    go false false e f = tt
 
 -- the exact readings of the rung r of the line l, against the requirement q, on the cutting m
 abbrev pub MeetsOn : ℕ → Line → Requirement → ℕ → Type 0
@@ -55,7 +51,10 @@ module _ (l : Line) (q : Requirement) (proper : Proper q) (m : ℕ) (hα : 1 ≤
   pub sound : Sound (verdictOf l q) (MeetsOn m l q) (MissesOn m l q)
   sound =
       record {
-        meets = λ r e. meets-more q _ _ (omega arith) (provided-below l m hα hD hm (thicknessAt r)) (upper-meets q proper (sufficient-bounds (provided l (thicknessAt r)) (enclosing q) e));
-        misses = λ r e. misses-less q _ _ (upper-provided-den l m hα hD hm (thicknessAt r)) (provided-above l m hα hD hm (thicknessAt r)) (lower-misses q proper (insufficient-bounds (provided l (thicknessAt r)) (enclosing q) e));
+        meets = λ r e. meets-more q _ _ (omega arith) (provided-below l m hα hD hm (thicknessAt r)) (upper-meets q proper (rw e at (verdict-told r)));
+        misses = λ r e. misses-less q _ _ (upper-provided-den l m hα hD hm (thicknessAt r)) (provided-above l m hα hD hm (thicknessAt r)) (lower-misses q proper (rw e at (verdict-told r)));
         apart = λ r. meets-stays r r (le-refl r);
       }
+    where
+      verdict-told : (r : ℕ) → Told (provided l (thicknessAt r)) (enclosing q) (verdictOf l q r)
+      verdict-told r = told (provided l (thicknessAt r)) (enclosing q)

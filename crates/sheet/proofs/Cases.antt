@@ -2,8 +2,9 @@
 -- Assumes nothing.
 use mathlib.Core.Path.{_≡_, refl}
 use mathlib.Core.Bool.{Bool, true, false, not, _&&_, _||_, true≢false, false≢true}
-use mathlib.Core.List.{List, [], _∷_, _++_}
-use Prim.Native.Nat.{ℕ, _≤_}
+use mathlib.Core.List.{List, [], _∷_, _++_, append-nil}
+use Prim.Native.Nat.{ℕ, _≤_, _<_}
+use native.Mathlib.Omega.{arith}
 use lib.Dec.{eqb, ltb}
 use borrow.Author.Tests.{eq-eqb, ltb-false}
 use Rattle.sheet.specs.Ranges.{Field, outside, anyOutside}
@@ -29,6 +30,12 @@ first-later n (c ∷ cs) ds away = go (c .holds) refl (first-later n cs ds (and-
         (elim b as (λ _. ℕ) [ true ↦ c .number | false ↦ firstHolding (cs ++ ds) ]) ≡ n → NoneHolds (c ∷ cs) × (firstHolding ds ≡ n)
     go true h later e = let z : false ≡ true = rw (eq-eqb (c .number) n e) at away in absurd (false≢true z)
     go false h later e = ((h, later e .0), later e .1)
+
+-- Where n is above 0 and the first number, and is that of no case behind, the case in front with the number n holds.
+pub first-here : (n : ℕ) (b : Bool) (cs : List Case) → 0 < n → absent n cs ≡ true → firstHolding (case n b ∷ cs) ≡ n → b ≡ true
+unfolding firstHolding
+first-here n true cs pos away e = refl
+first-here n false cs pos away e = let z = first-later n cs [] away (rw append-nil e) .1 in absurd (omega (arith, z))
 
 -- Where none in front holds, the first is behind.
 pub first-after : (cs ds : List Case) → NoneHolds cs → firstHolding (cs ++ ds) ≡ firstHolding ds

@@ -23,7 +23,7 @@ use Rattle.sheet.specs.Answer.{answer, answerOf}
 use Rattle.sheet.specs.Refusals.{fieldCases, ladderCases, isUndecided, refusal}
 use Rattle.sheet.specs.Cases.{case, firstHolding, NoneHolds}
 use Rattle.sheet.specs.Demands.{AllInsufficient, FirstUndecided, StatedCases, Demand3}
-use Rattle.sheet.proofs.Cases.{absent, first-later, first-after}
+use Rattle.sheet.proofs.Cases.{absent, first-later, first-here, first-after}
 use Rattle.sheet.proofs.Admitted.{Admitted, admitted}
 
 -- what holds of an answered sheet
@@ -71,19 +71,6 @@ demand-3 bytes h m hm r lt =
     let is = answer-thickness s (chosen s) in
     (λ e. law .0 (omega (arith, a .found)), λ e. is ∙ ap thicknessAt (law .1 e))
 
--- The last two cases: 17 comes where the first of them holds, 18 where only the second does.
-seventeen-holds : (a b : Bool) → firstHolding (case 17 a ∷ case 18 b ∷ []) ≡ 17 → a ≡ true
-unfolding firstHolding
-seventeen-holds true b e = refl
-seventeen-holds false true e = absurd (omega arith)
-seventeen-holds false false e = absurd (omega arith)
-
-eighteen-holds : (a b : Bool) → firstHolding (case 17 a ∷ case 18 b ∷ []) ≡ 18 → (a ≡ false) × (b ≡ true)
-unfolding firstHolding
-eighteen-holds true b e = absurd (omega arith)
-eighteen-holds false true e = (refl, refl)
-eighteen-holds false false e = absurd (omega arith)
-
 undecided : (x : Verdict) → isUndecided x ≡ true → x ≡ Undecided
 undecided Sufficient e = cc
 undecided Insufficient e = cc
@@ -100,7 +87,7 @@ module _ (sheet : List ℕ) where
   unfolding absent
   only-17 h =
       let got = first-later 17 (fieldCases sheet) (ladderCases sheet) refl h in
-      let all : c ≡ rungs = eqb-true _ _ (seventeen-holds (eqb c rungs) (isUndecided (v c)) (got .1)) in
+      let all : c ≡ rungs = eqb-true _ _ (first-here 17 (eqb c rungs) (case 18 (isUndecided (v c)) ∷ []) (omega arith) refl (got .1)) in
       (got .0, λ r lt. misses-before v r (omega arith))
 
   when-17 : NoneHolds (fieldCases sheet) × AllInsufficient v → refusal sheet ≡ 17
@@ -108,12 +95,12 @@ module _ (sheet : List ℕ) where
   when-17 h = first-after (fieldCases sheet) (ladderCases sheet) (h .0) ∙ rw (eq-eqb c rungs (first-none v (h .1)))
 
   only-18 : refusal sheet ≡ 18 → NoneHolds (fieldCases sheet) × FirstUndecided v
-  unfolding absent
+  unfolding absent NoneHolds
   only-18 h =
       let got = first-later 18 (fieldCases sheet) (ladderCases sheet) refl h in
-      let holds = eighteen-holds (eqb c rungs) (isUndecided (v c)) (got .1) in
-      let some : ¬ (c ≡ rungs) = eqb-false _ _ (holds .0) in
-      (got .0, (c, omega (arith, first-within v), undecided (v c) (holds .1), misses-before v))
+      let last = first-later 18 (case 17 (eqb c rungs) ∷ []) (case 18 (isUndecided (v c)) ∷ []) refl (got .1) in
+      let some : ¬ (c ≡ rungs) = eqb-false _ _ (last .0 .0) in
+      (got .0, (c, omega (arith, first-within v), undecided (v c) (first-here 18 (isUndecided (v c)) [] (omega arith) refl (last .1)), misses-before v))
 
   when-18 : NoneHolds (fieldCases sheet) × FirstUndecided v → refusal sheet ≡ 18
   unfolding firstHolding
