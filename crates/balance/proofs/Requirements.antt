@@ -50,6 +50,6 @@ lower-misses (root p) pos lt = omega (arith, floor-root-below p pos, mul-le-mul-
 
 pub in-range-proper : (l : Line) (Δ : ℕ) (g : Goal) → LineInRange l → GoalInRange g → Proper (requirement l Δ g)
 unfolding requirement
-in-range-proper l Δ (Economy c) line costs = mul-pos (costs .some-insulation) (costs .some-share)
+in-range-proper l Δ (Economy e) line terms = mul-pos (terms .insulation-from) (terms .share-from)
 in-range-proper l Δ (Loss aim) line some = some
-in-range-proper l Δ (Surface rise) line range = mul-pos (line .some-coefficient) (range .0)
+in-range-proper l Δ (Surface rise) line range = mul-pos {m = l .coefficient} (omega arith) (range .0)

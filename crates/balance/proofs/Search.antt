@@ -11,7 +11,7 @@ use Rattle.balance.specs.declared.verdict.Verdict.{Verdict}
 use Rattle.balance.specs.declared.verdict.Verdict.the-variants.{Sufficient, Insufficient, Undecided}
 use Rattle.balance.specs.Verdict.{notInsufficient, firstNotInsufficient}
 
--- A verdict that is not insufficient.
+-- What the test `notInsufficient` says of a verdict.
 insufficient-unless : (x : Verdict) → notInsufficient x ≡ false → x ≡ Insufficient
 insufficient-unless Sufficient e = cc
 insufficient-unless Insufficient e = refl

@@ -12,10 +12,10 @@ use Rattle.logarithm.proofs.Steps.{Small, log-small}
 use Rattle.balance.specs.declared.line.Line.{Line}
 use Rattle.balance.specs.declared.line.Shape.{Shape}
 use Rattle.balance.specs.declared.line.Shape.the-variants.{Cylinder, Flat}
-use Rattle.balance.specs.declared.goal.Costs.{Costs}
+use Rattle.balance.specs.declared.goal.EconomyTerms.{EconomyTerms}
 use Rattle.balance.specs.Line.{shapeOf, multiplier}
 use Rattle.balance.specs.Provided.{film, filmBounds}
-use Rattle.balance.specs.Ranges.{LineInRange, CostsInRange}
+use Rattle.balance.specs.Ranges.{LineInRange, EconomyInRange}
 
 pub cylinder-diameter : (l : Line) → shapeOf l ≡ Cylinder → l .diameter .0 ≤ 10_000
 cylinder-diameter l e = leb-true _ _ (go _ e)
@@ -32,23 +32,23 @@ cylinder-small f small {D} {e} {k} {log} from to le outer is =
     mul-le-mul wide long
 
 -- the products of the economy goal
-pub record EconomySizes (l : Line) (Δ : ℕ) (c : Costs) : Type 0 where
+pub record EconomySizes (l : Line) (Δ : ℕ) (c : EconomyTerms) : Type 0 where
   pub two : c .heat * l .conductivity ≤ 65_535 * 2_000
   pub three : c .heat * l .conductivity * c .hours ≤ 65_535 * 2_000 * 8_784
   pub four : c .heat * l .conductivity * c .hours * Δ ≤ 65_535 * 2_000 * 8_784 * 7_000
   pub outlay : c .insulation * c .share ≤ 65_535 * 10_000
   pub some-outlay : 0 < c .insulation * c .share
 
-pub economy-sizes : (l : Line) (Δ : ℕ) (c : Costs) → LineInRange l → Δ ≤ 7_000 → CostsInRange c → EconomySizes l Δ c
-economy-sizes l Δ c line le costs =
-    let first : c .heat * l .conductivity ≤ 65_535 * 2_000 = mul-le-mul (costs .heat) (line .conductivity) in
-    let second : c .heat * l .conductivity * c .hours ≤ 65_535 * 2_000 * 8_784 = mul-le-mul first (costs .hours) in
+pub economy-sizes : (l : Line) (Δ : ℕ) (c : EconomyTerms) → LineInRange l → Δ ≤ 7_000 → EconomyInRange c → EconomySizes l Δ c
+economy-sizes l Δ c line le terms =
+    let first : c .heat * l .conductivity ≤ 65_535 * 2_000 = mul-le-mul (terms .heat-to) (line .conductivity-to) in
+    let second : c .heat * l .conductivity * c .hours ≤ 65_535 * 2_000 * 8_784 = mul-le-mul first (terms .hours-to) in
     record {
       two = first;
       three = second;
       four = mul-le-mul second le;
-      outlay = mul-le-mul (costs .insulation) (costs .share);
-      some-outlay = mul-pos (costs .some-insulation) (costs .some-share);
+      outlay = mul-le-mul (terms .insulation-to) (terms .share-to);
+      some-outlay = mul-pos (terms .insulation-from) (terms .share-from);
     }
 
 -- the film
@@ -60,5 +60,5 @@ pub film-small : (l : Line) → LineInRange l → (filmBounds l .lower ≤ 2 ^ 6
 unfolding film filmBounds
 film-small l range =
     let p = film l in
-    let small = mul-le-mul (multiplier-le (shapeOf l)) (range .conductivity) in
+    let small = mul-le-mul (multiplier-le (shapeOf l)) (range .conductivity-to) in
     (omega (arith, small, div-le-self (p .num) (p .den)), omega (arith, small, div-le-self (p .num + (p .den - 1)) (p .den)))

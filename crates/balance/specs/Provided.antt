@@ -11,11 +11,11 @@ use Rattle.balance.specs.declared.line.Shape.{Shape}
 use Rattle.balance.specs.declared.line.Shape.the-variants.{Cylinder, Flat}
 use Rattle.balance.specs.Line.{shapeOf, multiplier}
 
--- Have is the sum of two quotients. The insulation's, of thickness k on diameter D: "cylinder: E × log / 10⁷", "flat: k × 10⁶". Here log
+-- Have is the sum of two quotients. The insulation's, of thickness k on diameter D: "cylinder: E × log / 10⁷", "flat: k × 10⁶". scaledLog
 -- gives log / 10⁷ between two diameters, as a fraction.
 unfoldable pub insulation : (ℕ → ℕ → Fraction) → Shape → ℕ → ℕ → Fraction
-insulation log Cylinder D k = let E = outerDiameter D k in (E * log D E .num) over log D E .den
-insulation log Flat D k = (k * 10 ^ 6) over 1
+insulation scaledLog Cylinder D k = let E = outerDiameter D k in (E * scaledLog D E .num) over scaledLog D E .den
+insulation scaledLog Flat D k = (k * 10 ^ 6) over 1
 
 -- The surface film's: "plus 2L × 10⁷ / α", "plus L × 10⁷ / α".
 unfoldable pub film : Line → Fraction

@@ -1,26 +1,27 @@
--- The ranges within which the figures fit 64 bits: those of 01, "The sheet: 24 bytes", as far as they matter here.
+-- The ranges in which no divisor is 0 and every figure fits 64 bits: those of 01, "The sheet: 24 bytes", as far as they are needed for it.
 -- Assumes nothing.
 use Prim.Native.Nat.{_≤_}
 use Rattle.balance.specs.declared.line.Line.{Line}
-use Rattle.balance.specs.declared.goal.Costs.{Costs}
+use Rattle.balance.specs.declared.goal.EconomyTerms.{EconomyTerms}
 use Rattle.balance.specs.declared.goal.Goal.{Goal}
 use Rattle.balance.specs.declared.goal.Goal.the-variants.{Economy, Loss, Surface}
 
 pub record LineInRange (l : Line) : Type 0 where
-  pub diameter : 100 ≤ l .diameter .0
-  pub conductivity : l .conductivity ≤ 2_000
-  pub some-coefficient : 1 ≤ l .coefficient
-  pub coefficient : l .coefficient ≤ 10_000
+  pub diameter-from : 100 ≤ l .diameter .0
+  pub conductivity-to : l .conductivity ≤ 2_000
+  pub coefficient-from : 100 ≤ l .coefficient
+  pub coefficient-to : l .coefficient ≤ 10_000
 
-pub record CostsInRange (c : Costs) : Type 0 where
-  pub heat : c .heat ≤ 65_535
-  pub hours : c .hours ≤ 8_784
-  pub some-insulation : 1 ≤ c .insulation
-  pub insulation : c .insulation ≤ 65_535
-  pub some-share : 1 ≤ c .share
-  pub share : c .share ≤ 10_000
+pub record EconomyInRange (e : EconomyTerms) : Type 0 where
+  pub heat-to : e .heat ≤ 65_535
+  pub hours-to : e .hours ≤ 8_784
+  pub insulation-from : 1 ≤ e .insulation
+  pub insulation-to : e .insulation ≤ 65_535
+  pub share-from : 1 ≤ e .share
+  pub share-to : e .share ≤ 10_000
 
+-- a rise is below the largest difference of temperatures, from −50.0 to 650.0 °C
 abbrev pub GoalInRange : Goal → Type 0
-GoalInRange (Economy c) = CostsInRange c
+GoalInRange (Economy e) = EconomyInRange e
 GoalInRange (Loss aim) = 1 ≤ aim
 GoalInRange (Surface rise) = (1 ≤ rise) × (rise ≤ 7_000)

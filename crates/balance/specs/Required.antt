@@ -16,18 +16,19 @@ use Rattle.balance.specs.Line.{shapeOf, multiplier}
 pub data Requirement : Type 0 where
   ratio root : Fraction → Requirement
 
--- "coefficients 3.795×10⁻³ and 1.897×10⁻³ as printed, squared"
-abbrev pub coefficientSquared : Shape → ℕ
-coefficientSquared Cylinder = 14_402_025_000
-coefficientSquared Flat = 3_598_609_000
+-- the factor under the economy root
+abbrev pub economyFactor : Shape → ℕ
+economyFactor Cylinder = 14_402_025_000
+economyFactor Flat = 3_598_609_000
 
 -- What a goal requires of a line, Δ being the temperature difference.
--- "economy: the square root of 14,402,025,000 × fLτΔ / (PS) on a cylinder, of 3,598,609,000 × fLτΔ / (PS) on a flat wall"
+-- "economy: the square root of 14,402,025,000 × fLτΔ / (PS) on a cylinder, of 3,598,609,000 × fLτΔ / (PS) on a flat wall (coefficients
+-- 3.795×10⁻³ and 1.897×10⁻³ as printed, squared)"
 -- "loss: 2LΔ × 10⁵ / aim, flat LΔ × 10⁵ / aim"
 -- "surface: 2LΔ × 10⁷ / (αs), flat half of that"
 unfoldable pub requirement : Line → ℕ → Goal → Requirement
-requirement l Δ (Economy c) =
-    root ((coefficientSquared (shapeOf l) * (c .heat * l .conductivity * c .hours * Δ)) over (c .insulation * c .share))
+requirement l Δ (Economy e) =
+    root ((economyFactor (shapeOf l) * (e .heat * l .conductivity * e .hours * Δ)) over (e .insulation * e .share))
 requirement l Δ (Loss aim) = ratio ((multiplier (shapeOf l) * l .conductivity * Δ * 10 ^ 5) over aim)
 requirement l Δ (Surface s) = ratio ((multiplier (shapeOf l) * l .conductivity * Δ * 10 ^ 7) over (l .coefficient * s))
 

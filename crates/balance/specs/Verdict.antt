@@ -12,11 +12,10 @@ use Rattle.balance.specs.declared.verdict.Verdict.the-variants.{Sufficie
 use Rattle.balance.specs.Provided.{provided}
 use Rattle.balance.specs.Required.{Requirement, enclosing}
 
--- "A rung meets if under-have is at or above high need. It misses if over-have is below low need. Otherwise it is open."
+-- "A rung meets if under-have is at or above high need. It misses if over-have is below low need. Otherwise it is open.": p is what the rung
+-- provides and q what is required
 abbrev pub judged : Bounds → Bounds → Verdict
-judged provided required =
-    cond (leb (required .upper) (provided .lower)) Sufficient
-    (cond (ltb (provided .upper) (required .lower)) Insufficient Undecided)
+judged p q = cond (leb (q .upper) (p .lower)) Sufficient (cond (ltb (p .upper) (q .lower)) Insufficient Undecided)
 
 -- the verdict on the rung with index r
 abbrev pub verdictOf : Line → Requirement → ℕ → Verdict

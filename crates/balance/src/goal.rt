@@ -3,17 +3,16 @@ ghost use mathlib.Core.Path.{_≡_};
 ghost use Prim.Native.Nat.{_*_, _≤_, _<_};
 ghost use Rattle.balance.specs.declared.goal.Goal.the-variants.{Economy};
 ghost use Rattle.balance.specs.Line.{shapeOf, multiplier};
-ghost use Rattle.balance.specs.Ranges.{LineInRange, CostsInRange, GoalInRange};
-ghost use Rattle.balance.specs.Required.{coefficientSquared, requirement, enclosing};
+ghost use Rattle.balance.specs.Ranges.{LineInRange, EconomyInRange, GoalInRange};
+ghost use Rattle.balance.specs.Required.{economyFactor, requirement, enclosing};
 use crate::Line;
 use crate::Shape;
 use fractions::Bounds;
 use fractions::quotient;
 use roots::root;
 
-// What the economy goal uses: f, the price of heat in 0.01 yuan/GJ; τ, the hours a year; P, the price of insulation in yuan/m³; S, the
-// yearly share in 0.0001.
-pub struct Costs {
+// f, the price of heat in 0.01 yuan/GJ; τ, the hours a year; P, the price of insulation in yuan/m³; S, the yearly share in 0.0001.
+pub struct EconomyTerms {
     pub heat: u64,
     pub hours: u64,
     pub insulation: u64,
@@ -21,7 +20,7 @@ pub struct Costs {
 }
 
 pub enum Goal {
-    Economy(Costs),
+    Economy(EconomyTerms),
     // A heat loss, in 0.1 W/m².
     Loss(u64),
     // A rise of the surface's temperature above the air's, in 0.1 °C.
@@ -34,7 +33,7 @@ pub fn required(line: Line, difference: u64, goal: Goal) -> Bounds
     ensures { λ r. ⌜ r ≡ enclosing (requirement line difference goal) ⌝ }
 {
     match goal {
-        Goal::Economy(costs) => economy(line, difference, costs),
+        Goal::Economy(terms) => economy(line, difference, terms),
         Goal::Loss(aim) => quotient(conduction(line, difference) * 100_000, aim),
         Goal::Surface(rise) => quotient(
             conduction(line, difference) * 10_000_000,
@@ -51,21 +50,21 @@ fn conduction(line: Line, difference: u64) -> u64
     line.multiplied_conductivity() * difference
 }
 
-fn economy(line: Line, difference: u64, costs: Costs) -> Bounds
-    requires { ⌜ LineInRange line × (difference ≤ 7_000) × CostsInRange costs ⌝ }
-    ensures { λ r. ⌜ r ≡ enclosing (requirement line difference (Economy costs)) ⌝ }
+fn economy(line: Line, difference: u64, terms: EconomyTerms) -> Bounds
+    requires { ⌜ LineInRange line × (difference ≤ 7_000) × EconomyInRange terms ⌝ }
+    ensures { λ r. ⌜ r ≡ enclosing (requirement line difference (Economy terms)) ⌝ }
 {
-    let saving = 1000 * (costs.heat * line.conductivity * costs.hours * difference);
+    let numerator = 1000 * (terms.heat * line.conductivity * terms.hours * difference);
     root(
-        coefficient(line.shape()),
-        saving,
-        costs.insulation * costs.share,
+        printed_coefficient(line.shape()),
+        numerator,
+        terms.insulation * terms.share,
     )
 }
 
 // The printed coefficient in units of 10⁻⁶: the equation's factor is 1,000 times its square.
-fn coefficient(shape: Shape) -> u64
-    ensures { λ r. ⌜ (r * r * 1000 ≡ coefficientSquared shape) × (0 < r) × (r < 4096) ⌝ }
+fn printed_coefficient(shape: Shape) -> u64
+    ensures { λ r. ⌜ (r * r * 1000 ≡ economyFactor shape) × (0 < r) × (r < 4096) ⌝ }
 {
     match shape {
         Shape::Cylinder => 3795,

@@ -4,7 +4,7 @@ mod line;
 mod provision;
 mod verdict;
 
-pub use goal::Costs;
+pub use goal::EconomyTerms;
 pub use goal::Goal;
 pub use goal::required;
 pub use line::Line;

@@ -1,7 +1,7 @@
 -- What holds of a sheet for which the cases 11 to 16 fail: its line, its temperatures and its goal are in range.
 -- Assumes nothing.
 use mathlib.Core.Path.{_≡_, refl}
-use mathlib.Core.Bool.{Bool, true, false, cond, _&&_}
+use mathlib.Core.Bool.{Bool, true, false, cond, _&&_, and-eq-true-iff}
 use mathlib.Core.Logic.{_≢_}
 use mathlib.Core.List.{List, []}
 use Prim.Native.Nat.{ℕ, _-_, _≤_, _<_}
@@ -13,10 +13,10 @@ use Rattle.balance.specs.declared.goal.Goal.the-variants.{Economy, Loss, Surfac
 use Rattle.balance.specs.Ranges.{LineInRange, GoalInRange}
 use Rattle.sheet.specs.declared.fields.Sheet.{Sheet}
 use Rattle.sheet.specs.Sheet.{decoded, difference, surfaceAim, goalOf}
-use Rattle.sheet.specs.Ranges.{anyOutside, economyFields}
+use Rattle.sheet.specs.Ranges.{anyOutside, economyFields, isEconomy}
 use Rattle.sheet.specs.Cases.{NoneHolds}
 use Rattle.sheet.specs.Refusals.{aimRefused, fieldCases}
-use Rattle.sheet.proofs.Cases.{and-both, or-false-both, inside}
+use Rattle.sheet.proofs.Cases.{inside}
 
 pub record Admitted (s : Sheet) : Type 0 where
   pub line : LineInRange (s .line)
@@ -24,41 +24,37 @@ pub record Admitted (s : Sheet) : Type 0 where
   pub difference : difference s ≤ 7_000
   pub goal : GoalInRange (goalOf s)
 
--- each goal's own range, from the ranges that only it has, and from case 16
+-- each goal's own range, from the fields that only it uses, and from case 16
 goal-in-range :
-    (s : Sheet) (economy loss : Bool) → eqb (s .goal) 1 ≡ economy → eqb (s .goal) 2 ≡ loss →
-    anyOutside (cond economy (economyFields s) []) ≡ false → difference s ≤ 7_000 → 1 ≤ s .goal → s .goal ≤ 3 → aimRefused s ≡ false →
-    GoalInRange (cond economy (Economy (s .costs)) (cond loss (Loss (s .aim)) (Surface (surfaceAim s - s .ambient))))
-goal-in-range s true loss e l fields near low high aim =
+    (b : List ℕ) → let s = decoded b in (economy loss : Bool) →
+    let goal = cond economy (Economy (s .economy)) (cond loss (Loss (s .aim)) (Surface (surfaceAim s - s .ambient))) in
+    anyOutside (cond (isEconomy goal) (economyFields b) []) ≡ false → difference s ≤ 7_000 → aimRefused s goal ≡ false → GoalInRange goal
+unfolding decoded
+goal-in-range b true loss fields near aim =
     let heat = inside _ _ fields in
     let hours = inside _ _ (heat .rest) in
     let insulation = inside _ _ (hours .rest) in
     let share = inside _ _ (insulation .rest) in
     record {
-      heat = heat .most;
-      hours = hours .most;
-      some-insulation = insulation .least;
-      insulation = insulation .most;
-      some-share = share .least;
-      share = share .most;
+      heat-to = heat .most;
+      hours-to = hours .most;
+      insulation-from = insulation .least;
+      insulation-to = insulation .most;
+      share-from = share .least;
+      share-to = share .most;
     }
-goal-in-range s false true e l fields near low high aim =
-    let some = or-false-both (eqb (s .aim) 0) _ (rw l at aim) .0 in
-    pos-of-ne-zero (eqb-false _ _ some)
-goal-in-range s false false e l fields near low high aim =
-    let not-1 : s .goal ≢ 1 = eqb-false _ _ e in
-    let not-2 : s .goal ≢ 2 = eqb-false _ _ l in
-    let is : s .goal ≡ 3 = omega arith in
+goal-in-range b false true fields near aim = pos-of-ne-zero (eqb-false _ _ aim)
+goal-in-range b false false fields near aim =
+    let s = decoded b in
     let above = ltb (s .ambient) (surfaceAim s) in
     let below = ltb (surfaceAim s) (s .temperature) in
-    let both = and-both above below (not-false (above && below) (rw (l, eq-eqb _ _ is) at aim)) in
+    let both = and-eq-true-iff above below .0 (not-false (above && below) aim) in
     omega (arith, ltb-true (s .ambient) (surfaceAim s) (both .0), ltb-true (surfaceAim s) (s .temperature) (both .1))
 
 pub admitted : (bytes : List ℕ) → NoneHolds (fieldCases bytes) → Admitted (decoded bytes)
-unfolding NoneHolds
+unfolding NoneHolds decoded
 admitted bytes f =
     let s = decoded bytes in
-    let code = inside _ _ (f .1 .0) in
     let diameter = inside _ _ (f .1 .1 .0) in
     let temperature = inside _ _ (diameter .rest) in
     let ambient = inside _ _ (temperature .rest) in
@@ -67,8 +63,8 @@ admitted bytes f =
     let warmer = leb-false _ _ (f .1 .1 .1 .1 .0) in
     let near : difference s ≤ 7_000 = omega arith in
     record {
-      line = record { diameter = diameter .least; conductivity = conductivity .most; some-coefficient = omega arith; coefficient = coefficient .most };
+      line = record { diameter-from = diameter .least; conductivity-to = conductivity .most; coefficient-from = coefficient .least; coefficient-to = coefficient .most };
       warmer = warmer;
       difference = near;
-      goal = goal-in-range s (eqb (s .goal) 1) (eqb (s .goal) 2) refl refl (coefficient .rest) near (code .least) (code .most) (f .1 .1 .1 .1 .1 .0);
+      goal = goal-in-range bytes (eqb (s .goal) 1) (eqb (s .goal) 2) (coefficient .rest) near (f .1 .1 .1 .1 .1 .0);
     }

@@ -1,7 +1,7 @@
 -- The first case that holds.
 -- Assumes nothing.
 use mathlib.Core.Path.{_≡_, refl}
-use mathlib.Core.Bool.{Bool, true, false, not, _&&_, _||_, true≢false, false≢true}
+use mathlib.Core.Bool.{Bool, true, false, not, _&&_, _||_, and-eq-true-iff, true≢false, false≢true}
 use mathlib.Core.List.{List, [], _∷_, _++_, append-nil}
 use Prim.Native.Nat.{ℕ, _≤_, _<_}
 use native.Mathlib.Omega.{arith}
@@ -9,10 +9,6 @@ use lib.Dec.{eqb, ltb}
 use borrow.Author.Tests.{eq-eqb, ltb-false}
 use Rattle.sheet.specs.Ranges.{Field, outside, anyOutside}
 use Rattle.sheet.specs.Cases.{Case, case, firstHolding, NoneHolds}
-
-pub and-both : (a b : Bool) → a && b ≡ true → (a ≡ true) × (b ≡ true)
-and-both true b e = (refl, e)
-and-both false b e = absurd (false≢true e)
 
 -- no case of the list has the number n
 unfoldable pub absent : ℕ → List Case → Bool
@@ -23,7 +19,7 @@ absent n (c ∷ cs) = not (eqb (c .number) n) && absent n cs
 pub first-later : (n : ℕ) (cs ds : List Case) → absent n cs ≡ true → firstHolding (cs ++ ds) ≡ n → NoneHolds cs × (firstHolding ds ≡ n)
 unfolding absent firstHolding NoneHolds
 first-later n [] ds away = λ e. (tt, e)
-first-later n (c ∷ cs) ds away = go (c .holds) refl (first-later n cs ds (and-both (not (eqb (c .number) n)) (absent n cs) away .1))
+first-later n (c ∷ cs) ds away = go (c .holds) refl (first-later n cs ds (and-eq-true-iff (not (eqb (c .number) n)) (absent n cs) .0 away .1))
   where
     go :
         (b : Bool) → c .holds ≡ b → (firstHolding (cs ++ ds) ≡ n → NoneHolds cs × (firstHolding ds ≡ n)) →
@@ -49,7 +45,7 @@ pub record Inside (f : Field) (fs : List Field) : Type 0 where
   pub most : f .value ≤ f .most
   pub rest : anyOutside fs ≡ false
 
-pub or-false-both : (a b : Bool) → a || b ≡ false → (a ≡ false) × (b ≡ false)
+or-false-both : (a b : Bool) → a || b ≡ false → (a ≡ false) × (b ≡ false)
 or-false-both true b e = absurd (true≢false e)
 or-false-both false b e = (refl, e)
 

@@ -16,9 +16,9 @@ use Rattle.balance.proofs.Requirements.{in-range-proper}
 use Rattle.balance.proofs.Search.{first-within, misses-before, first-not-insufficient, first-is, first-none, least-anywhere}
 use Rattle.balance.proofs.Judgement.{MeetsOn, MissesOn, meets-stays, sound}
 use Rattle.sheet.specs.declared.fields.Sheet.{Sheet}
-use Rattle.sheet.specs.Bytes.{number, bytesOf}
+use Rattle.sheet.specs.Bytes.{bigEndian, bytesOf}
 use Rattle.sheet.specs.Sheet.{decoded, difference, goalOf}
-use Rattle.sheet.specs.Search.{requires, verdicts, chosen}
+use Rattle.sheet.specs.Search.{requirementOf, verdicts, chosen}
 use Rattle.sheet.specs.Answer.{answer, answerOf}
 use Rattle.sheet.specs.Refusals.{fieldCases, ladderCases, isUndecided, refusal}
 use Rattle.sheet.specs.Cases.{case, firstHolding, NoneHolds}
@@ -54,18 +54,18 @@ two-bytes x lt =
     let high : x / 256 < 256 = omega arith in
     rw (mod-eq-of-lt high) (omega (arith, div-add-mod' x 256))
 
-pub answer-thickness : (s : Sheet) (r : ℕ) → number (answerOf s r) 2 2 ≡ thicknessAt r
-unfolding number answerOf bytesOf
+pub answer-thickness : (s : Sheet) (r : ℕ) → bigEndian (answerOf s r) 2 2 ≡ thicknessAt r
+unfolding bigEndian answerOf bytesOf
 answer-thickness s r = omega (arith, two-bytes (thicknessAt r) (omega arith))
 
 pub demand-3 : Demand3
 demand-3 bytes h m hm r lt =
     let s = decoded bytes in
-    let q = requires s (goalOf s) in
+    let q = requirementOf s (goalOf s) in
     let a = answered bytes h in
     let in-range = a .admitted in
     let proper = in-range-proper (s .line) (difference s) (goalOf s) (in-range .line) (in-range .goal) in
-    let α = in-range .line .some-coefficient in
+    let α : 1 ≤ s .line .coefficient = omega arith in
     let D : 1 ≤ s .line .diameter .0 = omega arith in
     let law = least-anywhere (verdicts s) (MeetsOn m (s .line) q) (MissesOn m (s .line) q) (sound (s .line) q proper m α D hm) (a .enough) (meets-stays (s .line) q proper m α D hm) r in
     let is = answer-thickness s (chosen s) in

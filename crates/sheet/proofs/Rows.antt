@@ -1,7 +1,7 @@
 -- The table of limits: where the row below a temperature stands, and what the code's table holds there.
 -- Assumes nothing.
 use mathlib.Core.Path.{_≡_, refl, _∙_}
-use mathlib.Core.Bool.{Bool, true, false, cond, _&&_}
+use mathlib.Core.Bool.{Bool, true, false, cond, _&&_, and-eq-true-iff}
 use mathlib.Core.List.{List, [], _∷_, map}
 use Prim.Native.Nat.{ℕ, zero, suc, _+_, _-_, _*_, _/_, _≤_, _<_}
 use native.Mathlib.Nat.{le-of-suc-le-suc, not-suc-le-zero, sub-zero}
@@ -11,7 +11,6 @@ use lib.ListN.{length, getD}
 use borrow.Author.Tests.{leb-true, leb-false, eqb-true}
 use Rattle.sheet.specs.Bytes.{zeroDegrees}
 use Rattle.sheet.specs.Limits.{Row, table, unprinted, column, highestNotAbove}
-use Rattle.sheet.proofs.Cases.{and-both}
 
 -- A row as the code holds it, and what is read there.
 abbrev pub cells : Row → List ℕ
@@ -41,9 +40,10 @@ small-at : (rs : List Row) → small rs ≡ true → (i service : ℕ) → colum
 unfolding small
 small-at [] t i service = either (eqb service 1) (omega arith) (omega arith)
 small-at (r ∷ rs) t zero service =
-    let both = and-both (leb (r .yearRound) 314) (leb (r .seasonal) 314) (and-both _ (small rs) t .0) in
+    let parts = and-eq-true-iff (leb (r .yearRound) 314 && leb (r .seasonal) 314) (small rs) .0 t in
+    let both = and-eq-true-iff (leb (r .yearRound) 314) (leb (r .seasonal) 314) .0 (parts .0) in
     either (eqb service 1) (leb-true _ _ (both .0)) (leb-true _ _ (both .1))
-small-at (r ∷ rs) t (suc i) service = small-at rs (and-both (leb (r .yearRound) 314 && leb (r .seasonal) 314) (small rs) t .1) i service
+small-at (r ∷ rs) t (suc i) service = small-at rs (and-eq-true-iff (leb (r .yearRound) 314 && leb (r .seasonal) 314) (small rs) .0 t .1) i service
 
 pub limit-small : (i service : ℕ) → column service (getD table i unprinted) ≤ 314
 unfolding small
@@ -66,10 +66,10 @@ unfolding highestNotAbove even
 row-at t [] n below spaced low high =
     let none : rowsUpTo t - n ≡ 0 = omega arith in
     rw none
-row-at t (r ∷ rs) n below spaced low high = go (leb (zeroDegrees + 10 * r .temperature) t) refl (row-at t rs (suc n) r (and-both (eqb (r .temperature) (50 * suc n)) (even (suc n) rs) spaced .1))
+row-at t (r ∷ rs) n below spaced low high = go (leb (zeroDegrees + 10 * r .temperature) t) refl (row-at t rs (suc n) r (and-eq-true-iff (eqb (r .temperature) (50 * suc n)) (even (suc n) rs) .0 spaced .1))
   where
     at : r .temperature ≡ 50 * suc n
-    at = eqb-true _ _ (and-both (eqb (r .temperature) (50 * suc n)) (even (suc n) rs) spaced .0)
+    at = eqb-true _ _ (and-eq-true-iff (eqb (r .temperature) (50 * suc n)) (even (suc n) rs) .0 spaced .0)
 
     go :
         (b : Bool) → leb (zeroDegrees + 10 * r .temperature) t ≡ b →

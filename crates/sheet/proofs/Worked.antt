@@ -15,8 +15,8 @@ use Rattle.balance.specs.Provided.{insulation, film, insulationBounds, filmBoun
 use Rattle.balance.specs.Required.{requirement, enclosing}
 use Rattle.balance.specs.Verdict.{firstNotInsufficient}
 use Rattle.sheet.specs.declared.fields.Sheet.{Sheet}
-use Rattle.sheet.specs.Bytes.{number, bytesOf}
-use Rattle.sheet.specs.Sheet.{decoded, surfaceAim}
+use Rattle.sheet.specs.Bytes.{bigEndian, bytesOf}
+use Rattle.sheet.specs.Sheet.{decoded, surfaceAim, goalOf}
 use Rattle.sheet.specs.Limits.{highestNotAbove, lossLimit}
 use Rattle.sheet.specs.Answer.{lossCheck, surfaceCheck, surfaceBound, answerOf}
 use Rattle.sheet.specs.Refusals.{aimRefused, fieldCases, ladderCases, refusal}
@@ -26,7 +26,7 @@ use Rattle.sheet.specs.Worked.{Worked}
 use Rattle.sheet.proofs.Cases.{first-after}
 
 -- goal 3 with the aim at t
-aim-refused : (s : Sheet) → s .goal ≡ 3 → surfaceAim s ≡ s .temperature → aimRefused s ≡ true
+aim-refused : (s : Sheet) → s .goal ≡ 3 → surfaceAim s ≡ s .temperature → aimRefused s (goalOf s) ≡ true
 aim-refused s goal aim =
     let below : ltb (surfaceAim s) (s .temperature) ≡ false = le-ltb (surfaceAim s) (s .temperature) (omega arith) in
     rw (goal, below, and-false)
@@ -35,10 +35,10 @@ aim-at-t : (sheet : List ℕ) → let s = decoded sheet in s .goal ≡ 3 → sur
 unfolding firstHolding
 aim-at-t sheet goal aim earlier =
     let s = decoded sheet in
-    first-after (take 5 (fieldCases sheet)) (case 16 (aimRefused s) ∷ ladderCases sheet) earlier ∙ rw (aim-refused s goal aim)
+    first-after (take 5 (fieldCases sheet)) (case 16 (aimRefused s (goalOf s)) ∷ ladderCases sheet) earlier ∙ rw (aim-refused s goal aim)
 
 pub worked : Worked
-unfolding lowerStep upperStep least insulation film insulationBounds filmBounds provided requirement enclosing firstNotInsufficient number bytesOf decoded highestNotAbove lossLimit lossCheck surfaceCheck surfaceBound answerOf anyOutside firstHolding
+unfolding lowerStep upperStep least insulation film insulationBounds filmBounds provided requirement enclosing firstNotInsufficient bigEndian bytesOf decoded highestNotAbove lossLimit lossCheck surfaceCheck surfaceBound answerOf anyOutside firstHolding
 worked =
     record {
       p1 = refl;

@@ -1,6 +1,6 @@
 -- The answer to a sheet. 01, "The answer: 8 bytes".
 -- Assumes nothing.
-use Prim.Native.Nat.{ℕ, _+_, _-_, _*_, _^_, min}
+use Prim.Native.Nat.{ℕ, _+_, _-_, _*_, min}
 use mathlib.Core.Bool.{cond}
 use mathlib.Core.List.{List, _∷_, _++_}
 use lib.Dec.{leb, eqb}
@@ -12,8 +12,8 @@ use Rattle.balance.specs.declared.line.Shape.{Shape}
 use Rattle.balance.specs.declared.line.Shape.the-variants.{Cylinder, Flat}
 use Rattle.balance.specs.declared.verdict.Verdict.{Verdict}
 use Rattle.balance.specs.declared.verdict.Verdict.the-variants.{Sufficient, Insufficient, Undecided}
-use Rattle.balance.specs.Line.{shapeOf, multiplier}
-use Rattle.balance.specs.Provided.{provided}
+use Rattle.balance.specs.Line.{shapeOf}
+use Rattle.balance.specs.Provided.{film, provided}
 use Rattle.sheet.specs.declared.fields.Sheet.{Sheet}
 use Rattle.sheet.specs.Bytes.{bytesOf, offsetBinary}
 use Rattle.sheet.specs.Sheet.{decoded, difference}
@@ -44,9 +44,11 @@ surfaceCheck s r =
     cond (leb (s .temperature) limit) 0 (checkCode (verdictAt s (Surface (limit - s .ambient)) r))
 
 -- "Surface bound: ta plus 2L × 10⁷ × Δ / (α × under-have) rounded up, flat with L in place of 2L, and never above t."
+-- The film is 2L × 10⁷ / α, and on a flat wall L × 10⁷ / α.
 unfoldable pub surfaceBound : Sheet → ℕ → ℕ
 surfaceBound s r =
-    let rise = ceiling ((multiplier (shapeOf (s .line)) * s .line .conductivity * 10 ^ 7 * difference s) over (s .line .coefficient * provided (s .line) (thicknessAt r) .lower)) in
+    let q = film (s .line) in
+    let rise = ceiling ((q .num * difference s) over (q .den * provided (s .line) (thicknessAt r) .lower)) in
     min (s .temperature) (s .ambient + rise)
 
 -- "Byte 0 is 0. Byte 1: 1 cylinder, 2 flat. Bytes 2–3: thickness in mm. Byte 4, loss check … Byte 5, surface check … Bytes 6–7: surface

@@ -4,10 +4,10 @@ use Prim.Native.Nat.{ℕ, zero, suc, _+_, _*_, _/_, _%_, _^_}
 use mathlib.Core.List.{List, [], _∷_}
 use lib.ListN.{getD}
 
--- the number in the n bytes from place at on
-unfoldable pub number : List ℕ → ℕ → ℕ → ℕ
-number b at zero = 0
-number b at (suc n) = 256 * number b at n + getD b (at + n) 0
+-- the number in the n bytes from place at on, "big-endian"
+unfoldable pub bigEndian : List ℕ → ℕ → ℕ → ℕ
+bigEndian b at zero = 0
+bigEndian b at (suc n) = 256 * bigEndian b at n + getD b (at + n) 0
 
 -- n bytes that hold x
 unfoldable pub bytesOf : ℕ → ℕ → List ℕ
@@ -21,4 +21,4 @@ offsetBinary n = (n + 32_768) % 65_536
 
 -- 0.0 °C in that count
 abbrev pub zeroDegrees : ℕ
-zeroDegrees = 32_768
+zeroDegrees = offsetBinary 0

@@ -9,9 +9,9 @@ use Rattle.quadrature.specs.Cuttings.{lowerSum, upperSum}
 use Rattle.balance.specs.declared.verdict.Verdict.{Verdict}
 use Rattle.balance.specs.declared.verdict.Verdict.the-variants.{Insufficient, Undecided}
 use Rattle.balance.specs.Exact.{providedExactly, Meets, Misses}
-use Rattle.sheet.specs.Bytes.{number}
+use Rattle.sheet.specs.Bytes.{bigEndian}
 use Rattle.sheet.specs.Sheet.{decoded, goalOf}
-use Rattle.sheet.specs.Search.{requires, verdicts}
+use Rattle.sheet.specs.Search.{requirementOf, verdicts}
 use Rattle.sheet.specs.Answer.{answer}
 use Rattle.sheet.specs.Cases.{NoneHolds}
 use Rattle.sheet.specs.Refusals.{fieldCases, refusal}
@@ -38,7 +38,7 @@ abbrev pub Demand3 : Type 0
 Demand3 =
     (sheet : List ℕ) → refusal sheet ≡ 0 → (m : ℕ) → 1 ≤ m → (r : ℕ) → r < rungs →
     let s = decoded sheet in
-    let need = requires s (goalOf s) in
-    (number (answer sheet) 2 2 ≡ thicknessAt r) ↔
-    (Meets need (providedExactly (lowerSum m) (s .line) (thicknessAt r)) ×
-    ((r ≡ 0) ⊎ Misses need (providedExactly (upperSum m) (s .line) (thicknessAt (r - 1)))))
+    let required = requirementOf s (goalOf s) in
+    (bigEndian (answer sheet) 2 2 ≡ thicknessAt r) ↔
+    (Meets required (providedExactly (lowerSum m) (s .line) (thicknessAt r)) ×
+    ((r ≡ 0) ⊎ Misses required (providedExactly (upperSum m) (s .line) (thicknessAt (r - 1)))))

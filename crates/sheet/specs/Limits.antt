@@ -20,15 +20,16 @@ table =
     row 50 58 116 ∷ row 100 93 163 ∷ row 150 116 203 ∷ row 200 140 244 ∷ row 250 163 273 ∷ row 300 186 296 ∷ row 350 209 308 ∷
     row 400 227 314 ∷ row 450 244 0 ∷ row 500 262 0 ∷ row 550 279 0 ∷ row 600 296 0 ∷ row 650 314 0 ∷ []
 
--- no row
+-- what stands for a row where none is printed
 abbrev pub unprinted : Row
 unprinted = row 0 0 0
 
--- "1 year-round, 2 seasonal"
+-- "1 year-round, 2 seasonal". Refusal 12 meets every other code.
 abbrev pub column : ℕ → Row → ℕ
 column service r = cond (eqb service 1) (r .yearRound) (r .seasonal)
 
--- "The row is the highest one not above t. Below 50.0, or seasonal from 450.0, none is printed.": the rows rise
+-- "The row is the highest one not above t. Below 50.0, or seasonal from 450.0, none is printed." The rows rise, so the search ends
+-- at the first that is above t.
 unfoldable pub highestNotAbove : ℕ → Row → List Row → Row
 highestNotAbove t below [] = below
 highestNotAbove t below (r ∷ higher) = elim (leb (zeroDegrees + 10 * r .temperature) t) [ true ↦ highestNotAbove t r higher | false ↦ below ]

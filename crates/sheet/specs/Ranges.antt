@@ -1,11 +1,14 @@
--- The ranges of a sheet's fields. 01, "The sheet: 24 bytes".
+-- The ranges of a sheet's fields, by their offsets. 01, "The sheet: 24 bytes".
 -- Assumes nothing.
 use Prim.Native.Nat.{ℕ, _+_, _-_}
-use mathlib.Core.Bool.{Bool, false, _||_, cond}
-use mathlib.Core.List.{List, [], _∷_}
-use lib.Dec.{ltb, eqb}
-use Rattle.sheet.specs.declared.fields.Sheet.{Sheet}
-use Rattle.sheet.specs.Bytes.{zeroDegrees}
+use mathlib.Core.Bool.{Bool, true, false, _||_, cond}
+use mathlib.Core.List.{List, [], _∷_, map}
+use lib.Dec.{ltb}
+use lib.ListN.{getD}
+use Rattle.balance.specs.declared.goal.Goal.{Goal}
+use Rattle.balance.specs.declared.goal.Goal.the-variants.{Economy, Loss, Surface}
+use Rattle.sheet.specs.Bytes.{bigEndian, offsetBinary, zeroDegrees}
+use Rattle.sheet.specs.Sheet.{decoded, goalOf}
 
 -- a field: its offset, its value and its range
 pub record Field : Type 0 where
@@ -24,31 +27,42 @@ unfoldable pub anyOutside : List Field → Bool
 anyOutside [] = false
 anyOutside (f ∷ fs) = outside f || anyOutside fs
 
+-- a field of one byte, of two bytes, and of two bytes that are signed
+abbrev pub code : List ℕ → ℕ → ℕ → ℕ → Field
+code b o = field o (getD b o 0)
+
+abbrev pub unsigned : List ℕ → ℕ → ℕ → ℕ → Field
+unsigned b o = field o (bigEndian b o 2)
+
+abbrev pub signed : List ℕ → ℕ → ℕ → ℕ → Field
+signed b o = field o (offsetBinary (bigEndian b o 2))
+
 -- "1 economy, 2 loss, 3 surface", "1 year-round, 2 seasonal"
-abbrev pub codes : Sheet → List Field
-codes s = field 0 (s .goal) 1 3 ∷ field 1 (s .service) 1 2 ∷ []
+abbrev pub codes : List ℕ → List Field
+codes b = code b 0 1 3 ∷ code b 1 1 2 ∷ []
 
-abbrev pub isEconomy : Sheet → Bool
-isEconomy s = eqb (s .goal) 1
+-- "Offsets 14–21 are used for goal 1 only": f, τ, P and S
+abbrev pub economyFields : List ℕ → List Field
+economyFields b = unsigned b 14 1 65_535 ∷ unsigned b 16 1 8_784 ∷ unsigned b 18 1 65_535 ∷ unsigned b 20 1 10_000 ∷ []
 
--- "Offsets 14–21 are used for goal 1 only": their ranges
-abbrev pub economyFields : Sheet → List Field
-economyFields s =
-    field 14 (s .costs .heat) 1 65_535 ∷ field 16 (s .costs .hours) 1 8_784 ∷ field 18 (s .costs .insulation) 1 65_535 ∷
-    field 20 (s .costs .share) 1 10_000 ∷ []
+abbrev pub isEconomy : Goal → Bool
+isEconomy (Economy e) = true
+isEconomy (Loss aim) = false
+isEconomy (Surface rise) = false
 
--- the table's ranges; "their ranges then not applying"
-abbrev pub ranges : Sheet → List Field
-ranges s =
-    field 4 (s .line .diameter .0) 100 65_535 ∷
-    field 6 (s .temperature) (zeroDegrees - 500) (zeroDegrees + 6_500) ∷
-    field 8 (s .ambient) (zeroDegrees - 500) (zeroDegrees + 500) ∷
-    field 10 (s .line .conductivity) 1 2_000 ∷
-    field 12 (s .line .coefficient) 100 10_000 ∷
-    cond (isEconomy s) (economyFields s) []
+-- D, t, ta, L and α, and for goal 1 the fields above, "their ranges then not applying" for another goal
+abbrev pub ranges : List ℕ → List Field
+ranges b =
+    unsigned b 4 100 65_535 ∷
+    signed b 6 (zeroDegrees - 500) (zeroDegrees + 6_500) ∷
+    signed b 8 (zeroDegrees - 500) (zeroDegrees + 500) ∷
+    unsigned b 10 1 2_000 ∷
+    unsigned b 12 100 10_000 ∷
+    cond (isEconomy (goalOf (decoded b))) (economyFields b) []
 
 -- "and are zero otherwise", "The aim is zero for goal 1."
-abbrev pub mustBeZero : Sheet → List Field
-mustBeZero s =
-    cond (isEconomy s) (field 22 (s .aim) 0 0 ∷ [])
-    (field 14 (s .costs .heat) 0 0 ∷ field 16 (s .costs .hours) 0 0 ∷ field 18 (s .costs .insulation) 0 0 ∷ field 20 (s .costs .share) 0 0 ∷ [])
+abbrev pub zero : Field → Field
+zero f = field (f .offset) (f .value) 0 0
+
+abbrev pub mustBeZero : List ℕ → List Field
+mustBeZero b = cond (isEconomy (goalOf (decoded b))) (unsigned b 22 0 0 ∷ []) (map zero (economyFields b))

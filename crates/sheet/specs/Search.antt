@@ -9,12 +9,12 @@ use Rattle.sheet.specs.declared.fields.Sheet.{Sheet}
 use Rattle.sheet.specs.Sheet.{difference, goalOf}
 
 -- what a goal requires of the sheet's line
-abbrev pub requires : Sheet → Goal → Requirement
-requires s goal = requirement (s .line) (difference s) goal
+abbrev pub requirementOf : Sheet → Goal → Requirement
+requirementOf s goal = requirement (s .line) (difference s) goal
 
 -- the verdict on rung r against a goal
 abbrev pub verdictAt : Sheet → Goal → ℕ → Verdict
-verdictAt s goal r = verdictOf (s .line) (requires s goal) r
+verdictAt s goal r = verdictOf (s .line) (requirementOf s goal) r
 
 -- the same against the sheet's own goal
 abbrev pub verdicts : Sheet → ℕ → Verdict

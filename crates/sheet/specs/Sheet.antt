@@ -8,7 +8,7 @@ use lib.ListN.{getD}
 use Rattle.balance.specs.declared.goal.Goal.{Goal}
 use Rattle.balance.specs.declared.goal.Goal.the-variants.{Economy, Loss, Surface}
 use Rattle.sheet.specs.declared.fields.Sheet.{Sheet}
-use Rattle.sheet.specs.Bytes.{number, offsetBinary}
+use Rattle.sheet.specs.Bytes.{bigEndian, offsetBinary}
 
 -- the table of offsets
 unfoldable pub decoded : List ℕ → Sheet
@@ -16,12 +16,12 @@ decoded b =
     record {
       goal = getD b 0 0;
       service = getD b 1 0;
-      number = number b 2 2;
-      line = record { diameter = record { 0 = number b 4 2 }; conductivity = number b 10 2; coefficient = number b 12 2 };
-      temperature = offsetBinary (number b 6 2);
-      ambient = offsetBinary (number b 8 2);
-      costs = record { heat = number b 14 2; hours = number b 16 2; insulation = number b 18 2; share = number b 20 2 };
-      aim = number b 22 2;
+      number = bigEndian b 2 2;
+      line = record { diameter = record { 0 = bigEndian b 4 2 }; conductivity = bigEndian b 10 2; coefficient = bigEndian b 12 2 };
+      temperature = offsetBinary (bigEndian b 6 2);
+      ambient = offsetBinary (bigEndian b 8 2);
+      economy = record { heat = bigEndian b 14 2; hours = bigEndian b 16 2; insulation = bigEndian b 18 2; share = bigEndian b 20 2 };
+      aim = bigEndian b 22 2;
     }
 
 -- "Δ = t − ta"
@@ -32,8 +32,8 @@ difference s = s .temperature - s .ambient
 abbrev pub surfaceAim : Sheet → ℕ
 surfaceAim s = offsetBinary (s .aim)
 
--- "1 economy, 2 loss, 3 surface", each with what it uses; "s = aim − ta"
+-- "1 economy, 2 loss, 3 surface", each with what it uses; "s = aim − ta". Refusal 12 meets every other code.
 abbrev pub goalOf : Sheet → Goal
 goalOf s =
-    cond (eqb (s .goal) 1) (Economy (s .costs))
+    cond (eqb (s .goal) 1) (Economy (s .economy))
     (cond (eqb (s .goal) 2) (Loss (s .aim)) (Surface (surfaceAim s - s .ambient)))

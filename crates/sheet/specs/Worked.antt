@@ -8,9 +8,9 @@ use Rattle.fractions.specs.declared.Bounds.{Bounds}
 use Rattle.quadrature.specs.Figures.{lowerStep, upperStep, lowerLog, upperLog}
 use Rattle.balance.specs.Provided.{provided}
 use Rattle.balance.specs.Required.{enclosing}
-use Rattle.sheet.specs.Bytes.{number, bytesOf, zeroDegrees}
+use Rattle.sheet.specs.Bytes.{bigEndian, bytesOf, zeroDegrees}
 use Rattle.sheet.specs.Sheet.{decoded, surfaceAim, goalOf}
-use Rattle.sheet.specs.Search.{requires}
+use Rattle.sheet.specs.Search.{requirementOf}
 use Rattle.sheet.specs.Limits.{lossLimit, surfaceLimit}
 use Rattle.sheet.specs.Answer.{answer}
 use Rattle.sheet.specs.Refusals.{fieldCases, refusal}
@@ -31,14 +31,14 @@ abbrev providedAt : List ℕ → ℕ → Bounds
 providedAt sheet k = provided (decoded sheet .line) k
 
 abbrev requiredBy : List ℕ → Bounds
-requiredBy sheet = let s = decoded sheet in enclosing (requires s (goalOf s))
+requiredBy sheet = let s = decoded sheet in enclosing (requirementOf s (goalOf s))
 
 abbrev bounds : ℕ → ℕ → Bounds
 bounds l u = record { lower = l; upper = u }
 
 -- the sheet is answered, with a thickness of k mm
 abbrev Gives : List ℕ → ℕ → Type 0
-Gives sheet k = (refusal sheet ≡ 0) × (number (answer sheet) 2 2 ≡ k)
+Gives sheet k = (refusal sheet ≡ 0) × (bigEndian (answer sheet) 2 2 ≡ k)
 
 pub record Worked : Type 0 where
   -- "P1: step 100: under 9,950,248,756. P2: over 9,950,495,050. P3: E = D: both logs 0."

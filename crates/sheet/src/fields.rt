@@ -2,14 +2,17 @@
 ghost use mathlib.Core.Path.{_≡_};
 ghost use Prim.Native.Nat.{_+_, _<_};
 ghost use lib.ListN.{length};
-ghost use Rattle.sheet.specs.Bytes.{number, offsetBinary};
+ghost use Rattle.sheet.specs.Bytes.{bigEndian, offsetBinary};
 ghost use Rattle.sheet.specs.Sheet.{decoded};
-use balance::Costs;
+use balance::EconomyTerms;
 use balance::Line;
 use quadrature::Diameter;
 
+// 0.0 °C, and every signed 0, counted from −32,768.
+pub const ZERO: u64 = 32_768;
+
 // The codes of goal and service, the line number, the insulated line, the temperatures t of the pipe and ta of the air, counted in
-// 0.1 °C from −3,276.8 °C, the costs, and the aim as it is written.
+// 0.1 °C from −3,276.8 °C, the economy, and the aim as it is written.
 pub struct Sheet {
     pub goal: u64,
     pub service: u64,
@@ -17,7 +20,7 @@ pub struct Sheet {
     pub line: Line,
     pub temperature: u64,
     pub ambient: u64,
-    pub costs: Costs,
+    pub economy: EconomyTerms,
     pub aim: u64,
 }
 
@@ -37,7 +40,7 @@ impl Sheet {
             },
             temperature: signed(bytes, 6),
             ambient: signed(bytes, 8),
-            costs: Costs {
+            economy: EconomyTerms {
                 heat: unsigned(bytes, 14),
                 hours: unsigned(bytes, 16),
                 insulation: unsigned(bytes, 18),
@@ -51,7 +54,7 @@ impl Sheet {
 // The two bytes from place at on, big-endian.
 fn unsigned(bytes: &[u8], at: usize) -> u64
     requires { ⌜ at + 1 < length (now bytes) ⌝ }
-    ensures { λ r. ⌜ (r ≡ number (now (bytes .entry)) at 2) × (r < 65_536) ⌝ }
+    ensures { λ r. ⌜ (r ≡ bigEndian (now (bytes .entry)) at 2) × (r < 65_536) ⌝ }
 {
     256 * (bytes[at] as u64) + bytes[at + 1] as u64
 }
@@ -59,7 +62,7 @@ fn unsigned(bytes: &[u8], at: usize) -> u64
 // The same as a signed number, counted from −32,768.
 fn signed(bytes: &[u8], at: usize) -> u64
     requires { ⌜ at + 1 < length (now bytes) ⌝ }
-    ensures { λ r. ⌜ r ≡ offsetBinary (number (now (bytes .entry)) at 2) ⌝ }
+    ensures { λ r. ⌜ r ≡ offsetBinary (bigEndian (now (bytes .entry)) at 2) ⌝ }
 {
-    (unsigned(bytes, at) + 32_768) % 65_536
+    (unsigned(bytes, at) + ZERO) % 65_536
 }

@@ -1,8 +1,10 @@
 // The limits of heat loss and of surface temperature.
 ghost use mathlib.Core.Path.{_≡_};
-ghost use Prim.Native.Nat.{_≤_, _<_};
+ghost use Prim.Native.Nat.{_+_, _≤_, _<_};
 ghost use lib.ListN.{getD};
+ghost use Rattle.sheet.specs.Bytes.{zeroDegrees};
 ghost use Rattle.sheet.specs.Limits.{table, unprinted, column, lossLimit, surfaceLimit};
+use crate::fields::ZERO;
 
 // The limits in W/m² at 50 °C, 100 °C and so on to 650 °C, year-round and seasonal; 0 where none is printed.
 const LIMITS: [[u64; 2]; 13] = [
@@ -21,12 +23,9 @@ const LIMITS: [[u64; 2]; 13] = [
     [314, 0],
 ];
 
-// 0.0 °C.
-const ZERO: u64 = 32_768;
-
 // The limit of heat loss in 0.1 W/m² for a service and a pipe's temperature, counted from −3,276.8 °C, or 0 where none is printed.
 pub fn loss_limit(service: u64, temperature: u64) -> u64
-    requires { ⌜ (1 ≤ service) × (service ≤ 2) × (temperature ≤ 39_268) ⌝ }
+    requires { ⌜ (1 ≤ service) × (service ≤ 2) × (temperature ≤ zeroDegrees + 6_500) ⌝ }
     ensures { λ r. ⌜ r ≡ lossLimit service temperature ⌝ }
 {
     let first = ZERO + 500;

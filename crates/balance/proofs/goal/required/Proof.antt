@@ -2,7 +2,7 @@
 -- Assumes nothing.
 use mathlib.Core.Path.{ap, _∙_}
 use Prim.Native.Nat.{ℕ, _*_, _^_}
-use native.Mathlib.Nat.{mul-pos, mul-le-mul}
+use native.Mathlib.Nat.{le-trans, mul-pos, mul-le-mul}
 use native.Mathlib.Omega.{arith}
 use Rattle.fractions.specs.Fraction.{_over_}
 use Rattle.fractions.specs.Rounding.{rounded}
@@ -44,13 +44,13 @@ mul-quotient-3 : tie.Need-mul-quotient-3
 mul-quotient-3 c =
     let pre = c .before .before .before .before .before .pre in
     let range = rw (c .before .before .before .goal3 .given .1) at (pre .2) in
-    omega (arith, mul-le-mul (pre .0 .coefficient) (range .1))
+    omega (arith, mul-le-mul (pre .0 .coefficient-to) (range .1))
 
 quotient-requires-2 : tie.Need-quotient-requires-2
 quotient-requires-2 c κs =
     let pre = c .before .before .before .before .before .pre in
     let range = rw (c .before .before .before .goal3 .given .1) at (pre .2) in
-    mul-pos (pre .0 .some-coefficient) (range .0)
+    mul-pos (le-trans (omega arith) (pre .0 .coefficient-from)) (range .0)
 
 returns : tie.Need-returns
 returns c = rw (c .before .before .goal .given .1) (c .economy .ensures)

@@ -3,7 +3,7 @@
 use Prim.Native.Nat.{_+_}
 use native.Mathlib.Nat.{add-zero}
 use native.Mathlib.Omega.{arith}
-use Rattle.sheet.specs.Bytes.{number}
+use Rattle.sheet.specs.Bytes.{bigEndian}
 use borrow.Author.Needs.{needs}
 use Rattle.sheet.proofs.fields.unsigned.Statement.{statement}
 use Rattle.sheet.proofs.fields.unsigned.Tie as tie
@@ -32,7 +32,7 @@ add-result-2 c =
     omega (arith, c .before .shared-slice-known .given at, c .shared-slice-known2 .given (at + 1))
 
 returns : tie.Need-returns
-unfolding number
+unfolding bigEndian
 returns c =
     let at = c .before .before .args .at in
     (rw add-zero (omega arith), omega (arith, c .before .shared-slice-known .given at, c .shared-slice-known2 .given (at + 1)))

@@ -54,8 +54,8 @@ unsigned-requires-9 c κs = search needs
 returns : tie.Need-returns
 unfolding decoded
 returns c =
-    let costs = c .before .before .before .before in
-    let line = costs .before .before .before in
+    let economy = c .before .before .before .before in
+    let line = economy .before .before .before in
     let b = line .before .before .before .before .before .before .before .args .bytes .now in
     λ j.
     record {
@@ -68,11 +68,11 @@ returns c =
             conductivity = line .before .unsigned3 .ensures .0 j;
             coefficient = line .unsigned4 .ensures .0 j;
           };
-      temperature = costs .before .before .signed .ensures j;
-      ambient = costs .before .signed2 .ensures j;
-      costs =
+      temperature = economy .before .before .signed .ensures j;
+      ambient = economy .before .signed2 .ensures j;
+      economy =
           record {
-            heat = costs .unsigned5 .ensures .0 j;
+            heat = economy .unsigned5 .ensures .0 j;
             hours = c .before .before .before .unsigned6 .ensures .0 j;
             insulation = c .before .before .unsigned7 .ensures .0 j;
             share = c .before .unsigned8 .ensures .0 j;

@@ -2,8 +2,8 @@
 -- Assumes nothing.
 use native.Mathlib.Omega.{arith}
 use borrow.Author.Needs.{needs}
-use Rattle.balance.proofs.goal.coefficient.Statement.{statement}
-use Rattle.balance.proofs.goal.coefficient.Tie as tie
+use Rattle.balance.proofs.goal.printed_coefficient.Statement.{statement}
+use Rattle.balance.proofs.goal.printed_coefficient.Tie as tie
 
 enum-told : tie.Need-enum-told
 enum-told c = search needs
@@ -17,5 +17,5 @@ returns c = rw (c .enum-told .given .1) (omega arith)
 returns-2 : tie.Need-returns-2
 returns-2 c = rw (c .enum-told2 .given .1) (omega arith)
 
-pub coefficient-spec : {M : Type 1} → statement M
-coefficient-spec = tie.close (tie.spec enum-told enum-told-2 returns returns-2)
+pub printed-coefficient-spec : {M : Type 1} → statement M
+printed-coefficient-spec = tie.close (tie.spec enum-told enum-told-2 returns returns-2)
