@@ -4,3 +4,4 @@ pub mod Demands
 pub mod Worked
 pub mod Signed
 mod Rows
+pub mod Examples

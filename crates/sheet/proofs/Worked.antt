@@ -45,6 +45,7 @@ worked =
       p2 = refl;
       p3 = λ D. (log-self lowerStep D, log-self upperStep D);
       p4 = (refl, refl, (refl, refl));
+      listed = refl;
       p5 = (refl, (refl, refl));
       p6 = (refl, refl);
       p7 = refl;

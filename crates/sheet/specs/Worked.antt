@@ -2,7 +2,7 @@
 -- Assumes nothing.
 use Prim.Native.Nat.{ℕ, _+_}
 use mathlib.Core.Path.{_≡_}
-use mathlib.Core.List.{List, _∷_, _++_}
+use mathlib.Core.List.{List, [], _∷_, _++_}
 use lib.ListN.{take}
 use Rattle.fractions.specs.declared.Bounds.{Bounds}
 use Rattle.quadrature.specs.Figures.{lowerStep, upperStep, lowerLog, upperLog}
@@ -37,7 +37,7 @@ abbrev bounds : ℕ → ℕ → Bounds
 bounds l u = record { lower = l; upper = u }
 
 -- the sheet is answered, with a thickness of k mm
-abbrev Gives : List ℕ → ℕ → Type 0
+abbrev pub Gives : List ℕ → ℕ → Type 0
 Gives sheet k = (refusal sheet ≡ 0) × (bigEndian (answer sheet) 2 2 ≡ k)
 
 pub record Worked : Type 0 where
@@ -47,6 +47,8 @@ pub record Worked : Type 0 where
   pub p3 : (D : ℕ) → (lowerLog D D ≡ 0) × (upperLog D D ≡ 0)
   -- "P4: have at 50 mm is 55,000,000 = need, so 50."
   pub p4 : (providedAt (sheetF 2 800) 50 ≡ bounds 55_000_000 55_000_000) × (requiredBy (sheetF 2 800) ≡ bounds 55_000_000 55_000_000) × Gives (sheetF 2 800) 50
+  -- and the whole answer, for which the listing prints "7 flat 50 within within 30.0"
+  pub listed : answer (sheetF 2 800) ≡ 0 ∷ 2 ∷ 0 ∷ 50 ∷ 0 ∷ 0 ∷ 1 ∷ 44 ∷ []
   -- "P5: aim 799: need between 55,068,836 and 55,068,837, so 60. P6: aim 145: 300. P7: aim 144: refusal 17."
   pub p5 : (requiredBy (sheetF 2 799) ≡ bounds 55_068_836 55_068_837) × Gives (sheetF 2 799) 60
   pub p6 : Gives (sheetF 2 145) 300

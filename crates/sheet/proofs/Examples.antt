@@ -1,0 +1,76 @@
+-- Answered sheets, for each goal and with each outcome of the checks. The economy sheets are 01's ("D 270 gives 20, D 320 gives 30"); the
+-- other answers are from an independent computation.
+-- Assumes nothing.
+use mathlib.Core.Path.{_≡_, refl, sym}
+use mathlib.Core.List.{List, [], _∷_, _++_}
+use Prim.Native.Nat.{ℕ, _+_, _*_, _≤_, _<_}
+use native.Mathlib.Nat.{lt-of-le-of-lt}
+use native.Mathlib.Omega.{arith}
+use Rattle.fractions.specs.Fraction.{Fraction, _over_}
+use Rattle.quadrature.specs.Sums.{summed}
+use Rattle.quadrature.specs.Figures.{lowerStep, upperStep}
+use Rattle.roots.specs.Least.{least}
+use Rattle.roots.specs.Root.{floorRoot, ceilingRoot}
+use Rattle.roots.proofs.Squares.{square-le}
+use Rattle.roots.proofs.Roots.{floor-root-is, ceiling-root-is}
+use Rattle.balance.specs.Provided.{insulation, film, insulationBounds, filmBounds, provided}
+use Rattle.balance.specs.Required.{requirement, enclosing}
+use Rattle.balance.specs.Verdict.{firstNotInsufficient}
+use Rattle.sheet.specs.Bytes.{bigEndian, bytesOf}
+use Rattle.sheet.specs.Sheet.{decoded}
+use Rattle.sheet.specs.Ranges.{anyOutside}
+use Rattle.sheet.specs.Limits.{highestNotAbove, lossLimit}
+use Rattle.sheet.specs.Answer.{lossCheck, surfaceCheck, surfaceBound, answerOf, answer}
+use Rattle.sheet.specs.Cases.{firstHolding}
+use Rattle.sheet.specs.Refusals.{refusal}
+use Rattle.sheet.specs.Worked.{Gives}
+
+-- "Economy with L 333, α 2,048, f 7,500, τ 2,880, P 1,600, S 2,296, t 207, ta 70"
+abbrev economySheet : ℕ → List ℕ
+economySheet D =
+    1 ∷ 1 ∷ (bytesOf 2 0 ++ bytesOf 2 D ++ bytesOf 2 207 ++ bytesOf 2 70 ++ bytesOf 2 333 ++ bytesOf 2 2_048 ++ bytesOf 2 7_500 ++ bytesOf 2 2_880 ++ bytesOf 2 1_600 ++ bytesOf 2 2_296 ++ bytesOf 2 0)
+
+-- a sheet of goal 2 or 3; a negative number is written as its two's complement
+abbrev sheetOf : (goal service D t ta L α aim : ℕ) → List ℕ
+sheetOf goal service D t ta L α aim =
+    goal ∷ service ∷ (bytesOf 2 0 ++ bytesOf 2 D ++ bytesOf 2 t ++ bytesOf 2 ta ++ bytesOf 2 L ++ bytesOf 2 α ++ bytesOf 8 0 ++ bytesOf 2 aim)
+
+abbrev Answers : List ℕ → List ℕ → Type 0
+Answers sheet bytes = (refusal sheet ≡ 0) × (answer sheet ≡ bytes)
+
+pub record Examples : Type 0 where
+  pub economy-270 : Gives (economySheet 270) 20
+  pub economy-320 : Gives (economySheet 320) 30
+  -- a pipe for a loss; a pipe in air at −10.0 °C for a surface at −2.0 °C, with no limit printed
+  pub loss : Answers (sheetOf 2 1 1_080 3_500 250 450 1_163 1_500) (0 ∷ 1 ∷ 0 ∷ 70 ∷ 0 ∷ 0 ∷ 1 ∷ 112 ∷ [])
+  pub surface : Answers (sheetOf 3 2 4_260 4_500 65_436 380 1_000 65_516) (0 ∷ 1 ∷ 0 ∷ 170 ∷ 3 ∷ 0 ∷ 255 ∷ 233 ∷ [])
+  -- a bare pipe, with both limits exceeded, and the bound held to t
+  pub bare : Answers (sheetOf 2 1 1_000 6_000 0 333 1_001 60_061) (0 ∷ 1 ∷ 0 ∷ 0 ∷ 1 ∷ 1 ∷ 23 ∷ 112 ∷ [])
+  -- too close to the loss limit; too close to the surface limit
+  pub loss-close : Answers (sheetOf 2 1 12_000 600 200 100 145 60_000) (0 ∷ 2 ∷ 0 ∷ 0 ∷ 2 ∷ 1 ∷ 2 ∷ 88 ∷ [])
+  pub surface-close : Answers (sheetOf 2 1 12_000 803 200 100 101 402) (0 ∷ 2 ∷ 0 ∷ 10 ∷ 0 ∷ 2 ∷ 1 ∷ 245 ∷ [])
+
+-- the economy requirement of both sheets: 14,402,025,000 × 7,500 × 333 × 2,880 × 137 / (1,600 × 2,296) under the root
+abbrev radicand : Fraction
+radicand = 14_191_951_302_540_000_000_000 over 3_673_600
+
+low : floorRoot radicand ≡ 62_154_864
+low = sym (floor-root-is radicand (omega arith) 62_154_864 (omega arith) (omega arith))
+
+high : ceilingRoot radicand ≡ 62_154_865
+high =
+    sym (ceiling-root-is radicand (omega arith) 62_154_865 (omega arith)
+    (λ x lt. lt-of-le-of-lt (square-le {x = x} {y = 62_154_864} (radicand .den) (omega arith)) (omega arith)))
+
+pub examples : Examples
+unfolding summed lowerStep upperStep least insulation film insulationBounds filmBounds provided requirement enclosing firstNotInsufficient bigEndian bytesOf decoded highestNotAbove lossLimit lossCheck surfaceCheck surfaceBound answerOf anyOutside firstHolding
+examples =
+    record {
+      economy-270 = (rw (low, high), rw (low, high));
+      economy-320 = (rw (low, high), rw (low, high));
+      loss = (refl, refl);
+      surface = (refl, refl);
+      bare = (refl, refl);
+      loss-close = (refl, refl);
+      surface-close = (refl, refl);
+    }
