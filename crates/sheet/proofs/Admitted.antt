@@ -1,14 +1,13 @@
 -- What holds of a sheet for which the cases 11 to 16 fail: its line, its temperatures and its goal are in range.
 -- Assumes nothing.
-use mathlib.Core.Path.{_≡_, refl}
+use mathlib.Core.Path.{_≡_}
 use mathlib.Core.Bool.{Bool, true, false, cond, _&&_, and-eq-true-iff}
-use mathlib.Core.Logic.{_≢_}
 use mathlib.Core.List.{List, []}
 use Prim.Native.Nat.{ℕ, _-_, _≤_, _<_}
 use native.Mathlib.Nat.{pos-of-ne-zero}
 use native.Mathlib.Omega.{arith}
 use lib.Dec.{eqb, ltb}
-use borrow.Author.Tests.{eqb-false, leb-false, ltb-true, eq-eqb, not-false}
+use borrow.Author.Tests.{eqb-false, leb-false, ltb-true, not-false}
 use Rattle.balance.specs.declared.goal.Goal.the-variants.{Economy, Loss, Surface}
 use Rattle.balance.specs.Ranges.{LineInRange, GoalInRange}
 use Rattle.sheet.specs.declared.fields.Sheet.{Sheet}
