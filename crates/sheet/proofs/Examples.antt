@@ -1,5 +1,5 @@
 -- Answered sheets, for each goal and with each outcome of the checks. The economy sheets are 01's ("D 270 gives 20, D 320 gives 30"); the
--- other answers are from an independent computation.
+-- other answers are computed by tools/sheet.py, which shares nothing with the crates.
 -- Assumes nothing.
 use mathlib.Core.Path.{_≡_, refl, sym}
 use mathlib.Core.List.{List, [], _∷_, _++_}

@@ -3,7 +3,7 @@
 use mathlib.Core.Path.{_≡_, refl, _∙_}
 use mathlib.Core.Bool.{Bool, true, false, cond, _&&_, and-eq-true-iff}
 use mathlib.Core.List.{List, [], _∷_, map}
-use Prim.Native.Nat.{ℕ, zero, suc, _+_, _-_, _*_, _/_, _≤_, _<_}
+use Prim.Native.Nat.{ℕ, zero, suc, _+_, _-_, _*_, _/_, _≤_, _<_, max}
 use native.Mathlib.Nat.{le-of-suc-le-suc, not-suc-le-zero, sub-zero}
 use native.Mathlib.Omega.{arith}
 use lib.Dec.{leb, eqb}
@@ -30,7 +30,7 @@ read (r ∷ rs) (suc i) service lt low high = read rs i service (le-of-suc-le-su
 -- No limit is above 314.
 small : List Row → Bool
 small [] = true
-small (r ∷ rs) = (leb (r .yearRound) 314 && leb (r .seasonal) 314) && small rs
+small (r ∷ rs) = leb (max (r .yearRound) (r .seasonal)) 314 && small rs
 
 either : (b : Bool) {x y n : ℕ} → x ≤ n → y ≤ n → cond b x y ≤ n
 either true h k = h
@@ -40,10 +40,9 @@ small-at : (rs : List Row) → small rs ≡ true → (i service : ℕ) → colum
 unfolding small
 small-at [] t i service = either (eqb service 1) (omega arith) (omega arith)
 small-at (r ∷ rs) t zero service =
-    let parts = and-eq-true-iff (leb (r .yearRound) 314 && leb (r .seasonal) 314) (small rs) .0 t in
-    let both = and-eq-true-iff (leb (r .yearRound) 314) (leb (r .seasonal) 314) .0 (parts .0) in
-    either (eqb service 1) (leb-true _ _ (both .0)) (leb-true _ _ (both .1))
-small-at (r ∷ rs) t (suc i) service = small-at rs (and-eq-true-iff (leb (r .yearRound) 314 && leb (r .seasonal) 314) (small rs) .0 t .1) i service
+    let both : max (r .yearRound) (r .seasonal) ≤ 314 = leb-true _ _ (and-eq-true-iff _ (small rs) .0 t .0) in
+    either (eqb service 1) (omega arith) (omega arith)
+small-at (r ∷ rs) t (suc i) service = small-at rs (and-eq-true-iff (leb (max (r .yearRound) (r .seasonal)) 314) (small rs) .0 t .1) i service
 
 pub limit-small : (i service : ℕ) → column service (getD table i unprinted) ≤ 314
 unfolding small

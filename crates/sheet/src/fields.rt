@@ -12,7 +12,7 @@ use quadrature::Diameter;
 pub const ZERO: u64 = 32_768;
 
 // The codes of goal and service, the line number, the insulated line, the temperatures t of the pipe and ta of the air, counted in
-// 0.1 °C from −3,276.8 °C, the economy, and the aim as it is written.
+// 0.1 °C from −3,276.8 °C, the economy terms, and the aim as it is written.
 pub struct Sheet {
     pub goal: u64,
     pub service: u64,

@@ -1,0 +1,108 @@
+#!/usr/bin/env python3
+"""The answer to a sheet by document 01, computed by itself: plain, slow and exact, sharing nothing with the crates.
+
+    python3 tools/sheet.py goal service D t ta L alpha f tau P S aim
+
+prints the eight bytes of the answer, or the word refused and the refusal's number. t, ta and a surface aim may be negative.
+"""
+import sys
+from math import isqrt
+
+YEAR_ROUND = [58, 93, 116, 140, 163, 186, 209, 227, 244, 262, 279, 296, 314]
+SEASONAL = [116, 163, 203, 244, 273, 296, 308, 314]
+MEETS, MISSES, OPEN = 0, 1, 2
+
+
+def up(n, d):
+    """n / d rounded up."""
+    return -(-n // d)
+
+
+def have(D, L, alpha, k):
+    """Under-have and over-have at k mm."""
+    if D > 10_000:
+        return k * 10**6 + L * 10**7 // alpha, k * 10**6 + up(L * 10**7, alpha)
+    E = D + 20 * k
+    under = sum(2 * 10**12 // (2 * i + 1) for i in range(D, E))
+    over = sum(up(10**12 * (2 * i + 1), 2 * i * (i + 1)) for i in range(D, E))
+    return E * under // 10**7 + 2 * L * 10**7 // alpha, up(E * over, 10**7) + up(2 * L * 10**7, alpha)
+
+
+def ratio(n, d):
+    """Low need and high need of n / d."""
+    return n // d, up(n, d)
+
+
+def root(n, d):
+    """Low need and high need of the root of n / d."""
+    r = isqrt(n // d)
+    return r, r if r * r * d == n else r + 1
+
+
+def judge(h, n):
+    return MEETS if h[0] >= n[1] else MISSES if h[1] < n[0] else OPEN
+
+
+def signed(x):
+    return x - 65_536 if x >= 32_768 else x
+
+
+def answer(sheet):
+    """The refusal's number, or the eight bytes."""
+    if len(sheet) != 24:
+        return 11
+    goal, service = sheet[0], sheet[1]
+    _, D, t, ta, L, alpha, f, tau, P, S, aim = (256 * sheet[i] + sheet[i + 1] for i in range(2, 24, 2))
+    t, ta, surface = signed(t), signed(ta), signed(aim)
+    if goal not in (1, 2, 3) or service not in (1, 2):
+        return 12
+    within = D >= 100 and -500 <= t <= 6_500 and -500 <= ta <= 500 and 1 <= L <= 2_000 and 100 <= alpha <= 10_000
+    if goal == 1:
+        within = within and f >= 1 and 1 <= tau <= 8_784 and P >= 1 and 1 <= S <= 10_000
+    if not within:
+        return 13
+    if aim != 0 if goal == 1 else (f, tau, P, S) != (0, 0, 0, 0):
+        return 14
+    if t <= ta:
+        return 15
+    if goal == 2 and aim == 0 or goal == 3 and not ta < surface < t:
+        return 16
+
+    delta, n = t - ta, 2 if D <= 10_000 else 1
+    if goal == 1:
+        need = root((14_402_025_000 if n == 2 else 3_598_609_000) * f * L * tau * delta, P * S)
+    elif goal == 2:
+        need = ratio(n * L * delta * 10**5, aim)
+    else:
+        need = ratio(n * L * delta * 10**7, alpha * (surface - ta))
+    for k in range(0, 301, 10):
+        h = have(D, L, alpha, k)
+        verdict = judge(h, need)
+        if verdict != MISSES:
+            break
+    else:
+        return 17
+    if verdict == OPEN:
+        return 18
+
+    column = YEAR_ROUND if service == 1 else SEASONAL
+    row = t // 500 - 1
+    if 0 <= row < len(column):
+        loss = judge(h, ratio(n * L * delta * 10**5, 10 * column[row]))
+    else:
+        loss = 3
+    limit = 500 if ta <= 270 else ta + 250
+    surface = MEETS if t <= limit else judge(h, ratio(n * L * delta * 10**7, alpha * (limit - ta)))
+    bound = min(t, ta + up(n * L * 10**7 * delta, alpha * h[0])) % 65_536
+    return [0, 3 - n, k // 256, k % 256, loss, surface, bound // 256, bound % 256]
+
+
+def sheet_of(goal, service, *fields):
+    return bytes([goal, service]) + b"".join((x % 65_536).to_bytes(2, "big") for x in (0, *fields))
+
+
+if __name__ == "__main__":
+    if len(sys.argv) != 13:
+        sys.exit(__doc__.strip())
+    result = answer(sheet_of(*map(int, sys.argv[1:])))
+    print(f"refused {result}" if isinstance(result, int) else " ".join(map(str, result)))
