@@ -29,7 +29,7 @@ impl Line {
     }
 
     // 2L, and on a flat wall L.
-    pub fn multiplied_conductivity(self) -> u64
+    pub(crate) fn multiplied_conductivity(self) -> u64
         requires { ⌜ LineInRange self ⌝ }
         ensures { λ r. ⌜ (r ≡ multiplier (shapeOf self) * self .conductivity) × (r ≤ 4_000) ⌝ }
     {

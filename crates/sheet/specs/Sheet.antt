@@ -10,7 +10,7 @@ use Rattle.balance.specs.declared.goal.Goal.the-variants.{Economy, Loss, Surfac
 use Rattle.sheet.specs.declared.fields.Sheet.{Sheet}
 use Rattle.sheet.specs.Bytes.{bigEndian, offsetBinary}
 
--- the table of offsets
+-- the fields at the table's offsets, t and ta as counts from −32,768
 unfoldable pub decoded : List ℕ → Sheet
 decoded b =
     record {

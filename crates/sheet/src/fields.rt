@@ -9,7 +9,7 @@ use balance::Line;
 use quadrature::Diameter;
 
 // 0.0 °C, and every signed 0, counted from −32,768.
-pub const ZERO: u64 = 32_768;
+pub(crate) const ZERO: u64 = 32_768;
 
 // The codes of goal and service, the line number, the insulated line, the temperatures t of the pipe and ta of the air, counted in
 // 0.1 °C from −3,276.8 °C, the economy terms, and the aim as it is written.
@@ -25,7 +25,7 @@ pub struct Sheet {
 }
 
 impl Sheet {
-    pub fn decode(bytes: &[u8]) -> Sheet
+    pub(crate) fn decode(bytes: &[u8]) -> Sheet
         requires { ⌜ length (now bytes) ≡ 24 ⌝ }
         ensures { λ r. ⌜ r ≡ decoded (now (bytes .entry)) ⌝ }
     {

@@ -3,5 +3,3 @@ mod fields;
 mod limits;
 
 pub use fields::Sheet;
-pub use limits::loss_limit;
-pub use limits::surface_limit;

@@ -49,10 +49,10 @@ upper-next c =
     next upperStep upper-small (omega arith) (loop .inv .0) (omega arith) (loop .inv .5) (upper-of (c .step .ensures))
 
 add-lower : tie.Need-add-lower Inv-loop μ-loop
-add-lower c = omega (arith, lower-next (c .before) .small)
+add-lower c = omega (arith, lower-next (c .before), upper-next (c .before))
 
 add-upper : tie.Need-add-upper Inv-loop μ-loop
-add-upper c = omega (arith, upper-next (c .before .before) .small)
+add-upper c = omega (arith, lower-next (c .before .before), upper-next (c .before .before))
 
 add-i-2 : tie.Need-add-i-2 Inv-loop μ-loop
 add-i-2 c = search needs
