@@ -20,14 +20,14 @@ use Rattle.balance.specs.Provided.{insulation, film, fromFigures, insula
 use Rattle.balance.specs.Exact.{fromSum, providedExactly}
 
 -- no thinner, on a logarithm that is no less
-insulation-mono :
+pub insulation-mono :
     (f g : ℕ → ℕ → Fraction) (s : Shape) (D : ℕ) {j k : ℕ} → j ≤ k → f D (outerDiameter D j) ≼ g D (outerDiameter D k) →
     insulation f s D j ≼ insulation g s D k
 unfolding insulation
 insulation-mono f g Cylinder D {j} {k} le h = omega (arith, mul-le-mul {n₁ = outerDiameter D j} {n₂ = outerDiameter D k} (omega arith) h)
 insulation-mono f g Flat D le h = omega arith
 
-insulation-den : (f : ℕ → ℕ → Fraction) (s : Shape) (D k : ℕ) → 0 < f D (outerDiameter D k) .den → 0 < insulation f s D k .den
+pub insulation-den : (f : ℕ → ℕ → Fraction) (s : Shape) (D k : ℕ) → 0 < f D (outerDiameter D k) .den → 0 < insulation f s D k .den
 unfolding insulation
 insulation-den f Cylinder D k pos = pos
 insulation-den f Flat D k pos = omega arith

@@ -2,4 +2,6 @@ pub mod Requirements
 pub mod Enclosure
 pub mod Search
 pub mod Judgement
-mod Sizes
+pub mod Growth
+pub mod Choices
+pub mod Sizes

@@ -12,7 +12,7 @@ use Rattle.balance.specs.declared.verdict.Verdict.the-variants.{Sufficie
 use Rattle.balance.specs.Verdict.{notInsufficient, firstNotInsufficient}
 
 -- What the test `notInsufficient` says of a verdict.
-insufficient-unless : (x : Verdict) → notInsufficient x ≡ false → x ≡ Insufficient
+pub insufficient-unless : (x : Verdict) → notInsufficient x ≡ false → x ≡ Insufficient
 insufficient-unless Sufficient e = cc
 insufficient-unless Insufficient e = refl
 insufficient-unless Undecided e = cc
@@ -44,6 +44,17 @@ pub first-none : (v : ℕ → Verdict) → ((r : ℕ) → r < rungs → v r ≡ 
 first-none v all =
     let no-rung : ¬ (firstNotInsufficient v < rungs) = λ h. not-both (all (firstNotInsufficient v) h) (first-not-insufficient v h) in
     omega (arith, first-within v)
+
+-- Where every rung below one that misses misses too, a rung tells on which side of it the first lies.
+pub first-above : (v : ℕ → Verdict) → ((i j : ℕ) → i ≤ j → v j ≡ Insufficient → v i ≡ Insufficient) → (r : ℕ) → r < rungs → v r ≡ Insufficient → r < firstNotInsufficient v
+first-above v below r lt e =
+    let not-yet : ¬ (firstNotInsufficient v ≤ r) = λ le. not-both (below (firstNotInsufficient v) r le e) (first-not-insufficient v (omega arith)) in
+    omega arith
+
+pub first-not-above : (v : ℕ → Verdict) (r : ℕ) → notInsufficient (v r) ≡ true → firstNotInsufficient v ≤ r
+first-not-above v r here =
+    let down : ¬ (r < firstNotInsufficient v) = λ h. not-both (misses-before v r h) here in
+    omega arith
 
 -- What the verdicts v say of an exact reading, M that a rung meets and X that it misses: a rung judged sufficient meets, one judged
 -- insufficient misses, and none does both.

@@ -2,19 +2,20 @@
 -- Assumes nothing.
 use mathlib.Core.Path.{_≡_, refl}
 use mathlib.Core.Bool.{Bool, true, false, cond}
-use Prim.Native.Nat.{ℕ, _+_, _-_, _*_, _^_, _≤_, _<_}
-use native.Mathlib.Nat.{mul-le-mul, mul-pos, div-le-self}
+use Prim.Native.Nat.{ℕ, _+_, _-_, _*_, _/_, _^_, _≤_, _<_}
+use native.Mathlib.Nat.{mul-le-mul, mul-pos, div-le-self, div-le-of-le-mul, le-div-iff-mul-le}
 use native.Mathlib.Omega.{arith}
 use borrow.Author.Tests.{leb-true}
 use Rattle.quadrature.specs.Sums.{total}
 use Rattle.quadrature.specs.Units.{outerDiameter}
-use Rattle.logarithm.proofs.Steps.{Small, log-small}
+use Rattle.quadrature.specs.Figures.{lowerStep, lowerLog}
+use Rattle.logarithm.proofs.Steps.{Small, log-small, lower-small}
 use Rattle.balance.specs.declared.line.Line.{Line}
 use Rattle.balance.specs.declared.line.Shape.{Shape}
 use Rattle.balance.specs.declared.line.Shape.the-variants.{Cylinder, Flat}
 use Rattle.balance.specs.declared.goal.EconomyTerms.{EconomyTerms}
 use Rattle.balance.specs.Line.{shapeOf, multiplier}
-use Rattle.balance.specs.Provided.{film, filmBounds}
+use Rattle.balance.specs.Provided.{insulation, film, fromFigures, insulationBounds, filmBounds, provided}
 use Rattle.balance.specs.Ranges.{LineInRange, EconomyInRange}
 
 pub cylinder-diameter : (l : Line) → shapeOf l ≡ Cylinder → l .diameter .0 ≤ 10_000
@@ -62,3 +63,23 @@ film-small l range =
     let p = film l in
     let small = mul-le-mul (multiplier-le (shapeOf l)) (range .conductivity-to) in
     (omega (arith, small, div-le-self (p .num) (p .den)), omega (arith, small, div-le-self (p .num + (p .den - 1)) (p .den)))
+
+-- what a rung provides at the least: above 0, since the film is, and below 2⁴⁰
+insulation-small : (s : Shape) (D k : ℕ) → 100 ≤ D → (s ≡ Cylinder → D ≤ 10_000) → k ≤ 300 → insulationBounds s D k .lower ≤ 2 ^ 38
+unfolding insulation insulationBounds
+insulation-small Cylinder D k from to le =
+    div-le-of-le-mul (10 ^ 7) {m = outerDiameter D k * lowerLog D (outerDiameter D k)} {n = 2 ^ 38}
+    (omega (arith, cylinder-small lowerStep lower-small {k = k} from (to refl) le refl refl))
+insulation-small Flat D k from to le = omega arith
+
+film-from : (s : Shape) (L α : ℕ) → 1 ≤ L → 1 ≤ α → α ≤ 10_000 → 1 ≤ multiplier s * L * 10 ^ 7 / α
+film-from Cylinder L α some from to = le-div-iff-mul-le from .1 (omega arith)
+film-from Flat L α some from to = le-div-iff-mul-le from .1 (omega arith)
+
+pub provided-size : (l : Line) (k : ℕ) → LineInRange l → 1 ≤ l .conductivity → k ≤ 300 → (1 ≤ provided l k .lower) × (provided l k .lower ≤ 2 ^ 40)
+unfolding provided film filmBounds
+provided-size l k range some le =
+    let thin = insulation-small (shapeOf l) (l .diameter .0) k (range .diameter-from) (cylinder-diameter l) le in
+    let from = film-from (shapeOf l) (l .conductivity) (l .coefficient) some (omega arith) (range .coefficient-to) in
+    let to = div-le-self (film l .num) (film l .den) in
+    (omega (arith, from), omega (arith, thin, to, mul-le-mul (multiplier-le (shapeOf l)) (range .conductivity-to)))

@@ -1,6 +1,6 @@
 -- The ranges in which no divisor is 0 and every figure fits 64 bits: those of 01, "The sheet: 24 bytes", as far as they are needed for it.
 -- Assumes nothing.
-use Prim.Native.Nat.{_≤_}
+use Prim.Native.Nat.{_^_, _≤_}
 use Rattle.balance.specs.declared.line.Line.{Line}
 use Rattle.balance.specs.declared.goal.EconomyTerms.{EconomyTerms}
 use Rattle.balance.specs.declared.goal.Goal.{Goal}
@@ -20,8 +20,8 @@ pub record EconomyInRange (e : EconomyTerms) : Type 0 where
   pub share-from : 1 ≤ e .share
   pub share-to : e .share ≤ 10_000
 
--- a rise is below the largest difference of temperatures, from −50.0 to 650.0 °C
+-- a rise of the surface, and what a rung provides, which stands in its place in the surface bound
 abbrev pub GoalInRange : Goal → Type 0
 GoalInRange (Economy e) = EconomyInRange e
 GoalInRange (Loss aim) = 1 ≤ aim
-GoalInRange (Surface rise) = (1 ≤ rise) × (rise ≤ 7_000)
+GoalInRange (Surface rise) = (1 ≤ rise) × (rise ≤ 2 ^ 40)

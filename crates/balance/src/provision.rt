@@ -99,7 +99,7 @@ fn flat_insulation(k: Thickness) -> Bounds
     requires { ⌜ k .0 ≤ 300 ⌝ }
     ensures { λ r. ⌜ ((D : ℕ) → r ≡ insulationBounds Flat D (k .0)) × (r .lower ≤ 2 ^ 62) × (r .upper ≤ 2 ^ 62) ⌝ }
 {
-    let nanometres = k.0 * 1_000_000;
+    let nanometres = 1_000_000 * (k.0 as u64);
     Bounds {
         lower: nanometres,
         upper: nanometres,

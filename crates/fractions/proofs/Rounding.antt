@@ -2,9 +2,9 @@
 -- Assumes nothing.
 use mathlib.Core.Path.{_≡_, ap}
 use Prim.Native.Nat.{ℕ, _+_, _-_, _*_, _/_, _%_, _≤_, _<_}
-use native.Mathlib.Nat.{div-mul-le-self, lt-div-mul-add, div-add-mod', mod-lt, div-eq-of-lt-le, pos-of-ne-zero, le-mul-of-pos-right}
+use native.Mathlib.Nat.{div-mul-le-self, lt-div-mul-add, div-add-mod', mod-lt, div-eq-of-lt-le, pos-of-ne-zero, le-mul-of-pos-right, mul-le-mul-right, mul-lt-mul-of-pos-right}
 use native.Mathlib.Omega.{arith}
-use Rattle.fractions.specs.Fraction.{Fraction, _over_}
+use Rattle.fractions.specs.Fraction.{Fraction, _over_, _≼_}
 use Rattle.fractions.specs.Rounding.{floor, ceiling}
 
 pub floor-below : (p : Fraction) → floor p * p .den ≤ p .num
@@ -20,6 +20,18 @@ pub above-previous : (p : Fraction) → 0 < p .den → 0 < ceiling p → (ceilin
 above-previous p pos some =
     let down : (ceiling p - 1 + 1) * p .den ≡ ceiling p * p .den = ap (λ x. x * p .den) (omega arith) in
     omega (arith, div-mul-le-self (p .num + (p .den - 1)) (p .den))
+
+-- a fraction that is no less is rounded to a number that is no less
+module _ (p q : Fraction) (hp : 0 < p .den) (hq : 0 < q .den) (le : p ≼ q) where
+  pub floor-mono : floor p ≤ floor q
+  floor-mono =
+      let not-less : ¬ (floor q < floor p) = λ lt. omega (arith, mul-lt-mul-of-pos-right (below-next q hq) hp, mul-le-mul-right (q .den) (floor-below p), mul-le-mul-right (q .den * p .den) lt) in
+      omega arith
+
+  pub ceiling-mono : ceiling p ≤ ceiling q
+  ceiling-mono =
+      let not-less : ¬ (ceiling q < ceiling p) = λ lt. (let previous : ceiling q ≤ ceiling p - 1 = omega arith in omega (arith, mul-lt-mul-of-pos-right (above-previous p hp (omega arith)) hq, mul-le-mul-right (p .den) (ceiling-above q hq), mul-le-mul-right (q .den * p .den) previous)) in
+      omega arith
 
 -- by one division: the quotient itself where nothing is left over, else the next number
 module _ (n d : ℕ) (pos : 0 < d) where

@@ -45,6 +45,9 @@ module _ {A : Type 0} (none : A) (add : A → A → A) (unit : (x : A) → add x
 pub total-join : (f : ℕ → ℕ) (a n k : ℕ) → total f a (n + k) ≡ total f a n + total f (a + n) k
 total-join = join 0 _+_ add-zero add-assoc
 
+pub total-grows : (f : ℕ → ℕ) (a : ℕ) {n p : ℕ} → n ≤ p → total f a n ≤ total f a p
+total-grows f a le = rw (← le-dest le .1, total-join) (omega arith)
+
 pub fraction-sum-join : (f : ℕ → Fraction) (a n k : ℕ) → fractionSum f a (n + k) ≡ plus (fractionSum f a n) (fractionSum f (a + n) k)
 fraction-sum-join = join (0 over 1) plus (λ x. fraction-path (omega arith) (omega arith)) (λ x y z. fraction-path (omega arith) (omega arith))
 

@@ -7,12 +7,12 @@ pub struct Ladder;
 
 impl Ladder {
     // The step from one rung to the next and the last rung, in millimetres.
-    pub const GRADE: u64 = 10;
+    pub const GRADE: u16 = 10;
 
-    pub const TOP: u64 = 300;
+    pub const TOP: u16 = 300;
 
     // How many rungs there are: bare pipe is the first.
-    pub const RUNGS: u64 = Self::TOP / Self::GRADE + 1;
+    pub const RUNGS: u64 = 1 + (Self::TOP / Self::GRADE) as u64;
 
     pub fn count() -> u64
         ensures { λ n. ⌜ n ≡ rungs ⌝ }
@@ -25,7 +25,7 @@ impl Ladder {
         ensures { λ t. ⌜ t .0 ≡ thicknessAt r ⌝ }
     {
         if r < Self::RUNGS {
-            Thickness(Self::GRADE * r)
+            Thickness(Self::GRADE * r as u16)
         } else {
             Thickness(Self::TOP)
         }

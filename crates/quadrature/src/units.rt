@@ -7,7 +7,7 @@ ghost use Rattle.quadrature.specs.Units.{outerDiameter};
 pub struct Diameter(pub u64);
 
 // A thickness, in whole millimetres.
-pub struct Thickness(pub u64);
+pub struct Thickness(pub u16);
 
 impl Diameter {
     // The outer diameter with insulation of thickness k on it.
@@ -15,6 +15,6 @@ impl Diameter {
         requires { ⌜ outerDiameter (self .0) (k .0) < 2 ^ 64 ⌝ }
         ensures { λ r. ⌜ r .0 ≡ outerDiameter (self .0) (k .0) ⌝ }
     {
-        Diameter(self.0 + 20 * k.0)
+        Diameter(self.0 + 20 * (k.0 as u64))
     }
 }

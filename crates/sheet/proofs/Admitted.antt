@@ -9,19 +9,13 @@ use native.Mathlib.Omega.{arith}
 use lib.Dec.{eqb, ltb}
 use borrow.Author.Tests.{eqb-false, leb-false, ltb-true, not-false}
 use Rattle.balance.specs.declared.goal.Goal.the-variants.{Economy, Loss, Surface}
-use Rattle.balance.specs.Ranges.{LineInRange, GoalInRange}
-use Rattle.sheet.specs.declared.fields.Sheet.{Sheet}
+use Rattle.balance.specs.Ranges.{GoalInRange}
 use Rattle.sheet.specs.Sheet.{decoded, difference, surfaceAim, goalOf}
 use Rattle.sheet.specs.Ranges.{anyOutside, economyFields, isEconomy}
-use Rattle.sheet.specs.Cases.{NoneHolds}
+use Rattle.refusals.specs.Cases.{NoneHolds}
 use Rattle.sheet.specs.Refusals.{aimRefused, fieldCases}
-use Rattle.sheet.proofs.Cases.{inside}
-
-pub record Admitted (s : Sheet) : Type 0 where
-  pub line : LineInRange (s .line)
-  pub warmer : s .ambient < s .temperature
-  pub difference : difference s ≤ 7_000
-  pub goal : GoalInRange (goalOf s)
+use Rattle.sheet.specs.Admitted.{Admitted}
+use Rattle.sheet.proofs.Inside.{inside}
 
 -- each goal's own range, from the fields that only it uses, and from case 16
 goal-in-range :
@@ -54,6 +48,8 @@ pub admitted : (bytes : List ℕ) → NoneHolds (fieldCases bytes) → Admitted 
 unfolding NoneHolds decoded
 admitted bytes f =
     let s = decoded bytes in
+    let goal = inside _ _ (f .1 .0) in
+    let service = inside _ _ (goal .rest) in
     let diameter = inside _ _ (f .1 .1 .0) in
     let temperature = inside _ _ (diameter .rest) in
     let ambient = inside _ _ (temperature .rest) in
@@ -62,8 +58,12 @@ admitted bytes f =
     let warmer = leb-false _ _ (f .1 .1 .1 .1 .0) in
     let near : difference s ≤ 7_000 = omega arith in
     record {
+      service-from = service .least;
+      service-to = service .most;
       line = record { diameter-from = diameter .least; conductivity-to = conductivity .most; coefficient-from = coefficient .least; coefficient-to = coefficient .most };
+      conductivity-from = conductivity .least;
       warmer = warmer;
-      difference = near;
+      temperature-to = temperature .most;
+      difference-to = near;
       goal = goal-in-range bytes (eqb (s .goal) 1) (eqb (s .goal) 2) (coefficient .rest) near (f .1 .1 .1 .1 .1 .0);
     }

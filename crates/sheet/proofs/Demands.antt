@@ -1,6 +1,6 @@
 -- Demands 2 and 3 of a sheet, as `specs/Demands.antt` states them.
 -- Assumes nothing.
-use mathlib.Core.Path.{_≡_, refl, _∙_, ap}
+use mathlib.Core.Path.{_≡_, refl, sym, _∙_, ap}
 use mathlib.Core.Bool.{true, false}
 use mathlib.Core.List.{List, [], _∷_}
 use Prim.Native.Nat.{ℕ, _+_, _*_, _/_, _%_, _≤_, _<_}
@@ -16,15 +16,19 @@ use Rattle.balance.proofs.Requirements.{in-range-proper}
 use Rattle.balance.proofs.Search.{first-within, misses-before, first-not-insufficient, first-is, first-none, least-anywhere}
 use Rattle.balance.proofs.Judgement.{MeetsOn, MissesOn, meets-stays, sound}
 use Rattle.sheet.specs.declared.fields.Sheet.{Sheet}
-use Rattle.sheet.specs.Bytes.{bigEndian, bytesOf}
+use Rattle.sheet.specs.declared.encoding.Answer.{Answer}
+use Rattle.sheet.specs.Bytes.{bigEndian, bytesOf, offsetBinary}
 use Rattle.sheet.specs.Sheet.{decoded, difference, goalOf}
 use Rattle.sheet.specs.Search.{requirementOf, verdicts, chosen}
-use Rattle.sheet.specs.Answer.{answer, answerOf}
-use Rattle.sheet.specs.Refusals.{fieldCases, ladderCases, isUndecided, refusal}
-use Rattle.sheet.specs.Cases.{case, firstHolding, NoneHolds}
-use Rattle.sheet.specs.Demands.{AllInsufficient, FirstUndecided, StatedCases, Demand3}
-use Rattle.sheet.proofs.Cases.{absent, first-later, first-here, first-after}
-use Rattle.sheet.proofs.Admitted.{Admitted, admitted}
+use Rattle.sheet.specs.Answer.{encoded, lossCheck, surfaceCheck, surfaceBound, answerOf, answer}
+use Rattle.sheet.specs.Refusals.{fieldCases, ladderCases, isUndecided, cases, refusal, responseTo}
+use Rattle.refusals.specs.Cases.{case, firstHolding, NoneHolds}
+use Rattle.refusals.specs.Response.{Response, refusedWith}
+use Rattle.sheet.specs.Demands.{Demand1, InsufficientBelow, AnswerTo, FirstUndecided, Demand2, Demand3}
+use Rattle.refusals.proofs.Cases.{absent, first-later, first-here, first-after}
+use Rattle.refusals.proofs.Response.{respond-number, respond-refused, completed, first-or-complete}
+use Rattle.sheet.specs.Admitted.{Admitted}
+use Rattle.sheet.proofs.Admitted.{admitted}
 
 -- what holds of an answered sheet
 pub record Answered (bytes : List ℕ) : Type 0 where
@@ -42,8 +46,8 @@ unfolding absent NoneHolds
 answered bytes h =
     let s = decoded bytes in
     let v = verdicts s in
-    let early = first-later 0 (fieldCases bytes) (ladderCases bytes) refl h in
-    let late = first-later 0 (ladderCases bytes) [] refl (early .1) .0 in
+    let early = first-later 0 (fieldCases bytes) (ladderCases s) refl h in
+    let late = first-later 0 (ladderCases s) [] refl (early .1) .0 in
     let not-all : ¬ (chosen s ≡ rungs) = eqb-false _ _ (late .0) in
     let lt : chosen s < rungs = omega (arith, first-within v) in
     record { admitted = admitted bytes (early .0); found = lt; enough = sufficient (v (chosen s)) (first-not-insufficient v lt) (late .1 .0) }
@@ -54,22 +58,57 @@ two-bytes x lt =
     let high : x / 256 < 256 = omega arith in
     rw (mod-eq-of-lt high) (omega (arith, div-add-mod' x 256))
 
-pub answer-thickness : (s : Sheet) (r : ℕ) → bigEndian (answerOf s r) 2 2 ≡ thicknessAt r
-unfolding bigEndian answerOf bytesOf
-answer-thickness s r = omega (arith, two-bytes (thicknessAt r) (omega arith))
+-- the numbers in an answer's bytes, of fields that fit theirs
+module _ (a : Answer) where
+  encoded-thickness : a .thickness .0 < 65_536 → bigEndian (encoded a) 2 2 ≡ a .thickness .0
+  unfolding bigEndian encoded bytesOf
+  encoded-thickness lt = omega (arith, two-bytes (a .thickness .0) lt)
+
+  encoded-bound : a .bound < 65_536 → offsetBinary (bigEndian (encoded a) 6 2) ≡ a .bound
+  unfolding bigEndian encoded bytesOf
+  encoded-bound lt = omega (arith, two-bytes (offsetBinary (a .bound)) (omega arith))
+
+answer-thickness : (s : Sheet) → bigEndian (encoded (answerOf s (chosen s))) 2 2 ≡ thicknessAt (chosen s)
+unfolding answerOf
+answer-thickness s = encoded-thickness (answerOf s (chosen s)) (omega arith)
+
+-- the answer to an answered sheet, byte by byte
+answer-to : (bytes : List ℕ) → Answered bytes → AnswerTo (decoded bytes) (answer bytes)
+unfolding decoded bytesOf encoded answerOf surfaceBound
+answer-to bytes known =
+    let s = decoded bytes in
+    let a = answerOf s (chosen s) in
+    record {
+      rung = chosen s;
+      on-ladder = known .found;
+      meets = known .enough;
+      first = misses-before (verdicts s);
+      size = refl;
+      start = refl;
+      shape = refl;
+      thickness = answer-thickness s;
+      loss = refl;
+      surface = refl;
+      bound = encoded-bound a (omega arith);
+    }
+
+pub demand-1 : Demand1
+unfolding absent
+demand-1 sheet = first-or-complete (cases sheet) (answer sheet) refl
 
 pub demand-3 : Demand3
-demand-3 bytes h m hm r lt =
-    let s = decoded bytes in
+demand-3 sheet bytes h m hm r lt =
+    let s = decoded sheet in
     let q = requirementOf s (goalOf s) in
-    let a = answered bytes h in
-    let in-range = a .admitted in
+    let got = completed (cases sheet) (answer sheet) bytes h in
+    let known = answered sheet (got .0) in
+    let in-range = known .admitted in
     let proper = in-range-proper (s .line) (difference s) (goalOf s) (in-range .line) (in-range .goal) in
     let α : 1 ≤ s .line .coefficient = omega arith in
     let D : 1 ≤ s .line .diameter .0 = omega arith in
-    let law = least-anywhere (verdicts s) (MeetsOn m (s .line) q) (MissesOn m (s .line) q) (sound (s .line) q proper m α D hm) (a .enough) (meets-stays (s .line) q proper m α D hm) r in
-    let is = answer-thickness s (chosen s) in
-    (λ e. law .0 (omega (arith, a .found)), λ e. is ∙ ap thicknessAt (law .1 e))
+    let law = least-anywhere (verdicts s) (MeetsOn m (s .line) q) (MissesOn m (s .line) q) (sound (s .line) q proper m α D hm) (known .enough) (meets-stays (s .line) q proper m α D hm) r in
+    let is : bigEndian bytes 2 2 ≡ thicknessAt (chosen s) = rw (← got .1) (answer-thickness s) in
+    (λ e. law .0 (omega (arith, known .found)), λ e. is ∙ ap thicknessAt (law .1 e))
 
 undecided : (x : Verdict) → isUndecided x ≡ true → x ≡ Undecided
 undecided Sufficient e = cc
@@ -83,21 +122,21 @@ module _ (sheet : List ℕ) where
   abbrev c : ℕ
   c = chosen (decoded sheet)
 
-  only-17 : refusal sheet ≡ 17 → NoneHolds (fieldCases sheet) × AllInsufficient v
+  only-17 : refusal sheet ≡ 17 → NoneHolds (fieldCases sheet) × InsufficientBelow v rungs
   unfolding absent
   only-17 h =
-      let got = first-later 17 (fieldCases sheet) (ladderCases sheet) refl h in
+      let got = first-later 17 (fieldCases sheet) (ladderCases (decoded sheet)) refl h in
       let all : c ≡ rungs = eqb-true _ _ (first-here 17 (eqb c rungs) (case 18 (isUndecided (v c)) ∷ []) (omega arith) refl (got .1)) in
       (got .0, λ r lt. misses-before v r (omega arith))
 
-  when-17 : NoneHolds (fieldCases sheet) × AllInsufficient v → refusal sheet ≡ 17
+  when-17 : NoneHolds (fieldCases sheet) × InsufficientBelow v rungs → refusal sheet ≡ 17
   unfolding firstHolding
-  when-17 h = first-after (fieldCases sheet) (ladderCases sheet) (h .0) ∙ rw (eq-eqb c rungs (first-none v (h .1)))
+  when-17 h = first-after (fieldCases sheet) (ladderCases (decoded sheet)) (h .0) ∙ rw (eq-eqb c rungs (first-none v (h .1)))
 
   only-18 : refusal sheet ≡ 18 → NoneHolds (fieldCases sheet) × FirstUndecided v
   unfolding absent NoneHolds
   only-18 h =
-      let got = first-later 18 (fieldCases sheet) (ladderCases sheet) refl h in
+      let got = first-later 18 (fieldCases sheet) (ladderCases (decoded sheet)) refl h in
       let last = first-later 18 (case 17 (eqb c rungs) ∷ []) (case 18 (isUndecided (v c)) ∷ []) refl (got .1) in
       let some : ¬ (c ≡ rungs) = eqb-false _ _ (last .0 .0) in
       (got .0, (c, omega (arith, first-within v), undecided (v c) (first-here 18 (isUndecided (v c)) [] (omega arith) refl (last .1)), misses-before v))
@@ -107,7 +146,15 @@ module _ (sheet : List ℕ) where
   when-18 h =
       let r = h .1 .0 in
       let is : c ≡ r = first-is v r (h .1 .1) (ap notInsufficient (h .1 .2)) (h .1 .3) in
-      first-after (fieldCases sheet) (ladderCases sheet) (h .0) ∙ rw (is, ne-eqb r rungs (λ e. omega (arith, h .1 .1)), h .1 .2)
+      first-after (fieldCases sheet) (ladderCases (decoded sheet)) (h .0) ∙ rw (is, ne-eqb r rungs (λ e. omega (arith, h .1 .1)), h .1 .2)
 
-pub stated-cases : (sheet : List ℕ) → StatedCases sheet
-stated-cases sheet = record { seventeen = (only-17 sheet, when-17 sheet); eighteen = (only-18 sheet, when-18 sheet) }
+pub demand-2 : (sheet : List ℕ) → Demand2 sheet
+demand-2 sheet =
+    record {
+      answered = λ bytes h. (let got = completed (cases sheet) (answer sheet) bytes h in rw (← got .1) (answer-to sheet (answered sheet (got .0))));
+      seventeen = (λ e. only-17 sheet (numbered e), λ h. respond-refused (cases sheet) (answer sheet) 16 (when-17 sheet h));
+      eighteen = (λ e. only-18 sheet (numbered e), λ h. respond-refused (cases sheet) (answer sheet) 17 (when-18 sheet h));
+    }
+  where
+    numbered : {n : ℕ} → responseTo sheet ≡ refusedWith n → refusal sheet ≡ n
+    numbered e = sym (respond-number (cases sheet) (answer sheet)) ∙ ap (λ (r : Response). r .number) e

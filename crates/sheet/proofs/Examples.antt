@@ -20,8 +20,8 @@ use Rattle.sheet.specs.Bytes.{bigEndian, bytesOf}
 use Rattle.sheet.specs.Sheet.{decoded}
 use Rattle.sheet.specs.Ranges.{anyOutside}
 use Rattle.sheet.specs.Limits.{highestNotAbove, lossLimit}
-use Rattle.sheet.specs.Answer.{lossCheck, surfaceCheck, surfaceBound, answerOf, answer}
-use Rattle.sheet.specs.Cases.{firstHolding}
+use Rattle.sheet.specs.Answer.{encoded, lossCheck, surfaceCheck, surfaceBound, answerOf, answer}
+use Rattle.refusals.specs.Cases.{firstHolding}
 use Rattle.sheet.specs.Refusals.{refusal}
 use Rattle.sheet.specs.Worked.{Gives}
 
@@ -63,7 +63,7 @@ high =
     (λ x lt. lt-of-le-of-lt (square-le {x = x} {y = 62_154_864} (radicand .den) (omega arith)) (omega arith)))
 
 pub examples : Examples
-unfolding summed lowerStep upperStep least insulation film insulationBounds filmBounds provided requirement enclosing firstNotInsufficient bigEndian bytesOf decoded highestNotAbove lossLimit lossCheck surfaceCheck surfaceBound answerOf anyOutside firstHolding
+unfolding summed lowerStep upperStep least insulation film insulationBounds filmBounds provided requirement enclosing firstNotInsufficient bigEndian bytesOf decoded highestNotAbove lossLimit lossCheck surfaceCheck surfaceBound encoded answerOf anyOutside firstHolding
 examples =
     record {
       economy-270 = (rw (low, high), rw (low, high));

@@ -1,4 +1,5 @@
-pub mod Cases
+pub mod Inside
+pub mod Ladder
 pub mod Admitted
 pub mod Demands
 pub mod Worked

@@ -18,12 +18,12 @@ use Rattle.sheet.specs.declared.fields.Sheet.{Sheet}
 use Rattle.sheet.specs.Bytes.{bigEndian, bytesOf}
 use Rattle.sheet.specs.Sheet.{decoded, surfaceAim, goalOf}
 use Rattle.sheet.specs.Limits.{highestNotAbove, lossLimit}
-use Rattle.sheet.specs.Answer.{lossCheck, surfaceCheck, surfaceBound, answerOf}
+use Rattle.sheet.specs.Answer.{encoded, lossCheck, surfaceCheck, surfaceBound, answerOf}
 use Rattle.sheet.specs.Refusals.{aimRefused, fieldCases, ladderCases, refusal}
 use Rattle.sheet.specs.Ranges.{anyOutside}
-use Rattle.sheet.specs.Cases.{case, firstHolding, NoneHolds}
+use Rattle.refusals.specs.Cases.{case, firstHolding, NoneHolds}
 use Rattle.sheet.specs.Worked.{Worked}
-use Rattle.sheet.proofs.Cases.{first-after}
+use Rattle.refusals.proofs.Cases.{first-after}
 
 -- goal 3 with the aim at t
 aim-refused : (s : Sheet) → s .goal ≡ 3 → surfaceAim s ≡ s .temperature → aimRefused s (goalOf s) ≡ true
@@ -35,10 +35,10 @@ aim-at-t : (sheet : List ℕ) → let s = decoded sheet in s .goal ≡ 3 → sur
 unfolding firstHolding
 aim-at-t sheet goal aim earlier =
     let s = decoded sheet in
-    first-after (take 5 (fieldCases sheet)) (case 16 (aimRefused s (goalOf s)) ∷ ladderCases sheet) earlier ∙ rw (aim-refused s goal aim)
+    first-after (take 5 (fieldCases sheet)) (case 16 (aimRefused s (goalOf s)) ∷ ladderCases s) earlier ∙ rw (aim-refused s goal aim)
 
 pub worked : Worked
-unfolding lowerStep upperStep least insulation film insulationBounds filmBounds provided requirement enclosing firstNotInsufficient bigEndian bytesOf decoded highestNotAbove lossLimit lossCheck surfaceCheck surfaceBound answerOf anyOutside firstHolding
+unfolding lowerStep upperStep least insulation film insulationBounds filmBounds provided requirement enclosing firstNotInsufficient bigEndian bytesOf decoded highestNotAbove lossLimit lossCheck surfaceCheck surfaceBound encoded answerOf anyOutside firstHolding
 worked =
     record {
       p1 = refl;

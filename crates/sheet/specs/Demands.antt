@@ -1,33 +1,59 @@
--- What demands 2 and 3 of 00 say of a sheet.
+-- What the demands of 00 say of a sheet.
 -- Assumes nothing.
 use Prim.Native.Nat.{ℕ, _-_, _≤_, _<_}
 use mathlib.Core.Path.{_≡_}
 use mathlib.Core.Logic.{_⊎_, _↔_}
 use mathlib.Core.List.{List}
+use lib.ListN.{length, getD}
 use Rattle.quadrature.specs.Ladder.{rungs, thicknessAt}
 use Rattle.quadrature.specs.Cuttings.{lowerSum, upperSum}
+use Rattle.refusals.specs.Cases.{NoneHolds}
+use Rattle.refusals.specs.Response.{refusedWith, complete, FirstOrComplete}
 use Rattle.balance.specs.declared.verdict.Verdict.{Verdict}
-use Rattle.balance.specs.declared.verdict.Verdict.the-variants.{Insufficient, Undecided}
+use Rattle.balance.specs.declared.verdict.Verdict.the-variants.{Sufficient, Insufficient, Undecided}
+use Rattle.balance.specs.Line.{shapeOf}
+use Rattle.balance.specs.Provided.{provided}
 use Rattle.balance.specs.Exact.{providedExactly, Meets, Misses}
-use Rattle.sheet.specs.Bytes.{bigEndian}
+use Rattle.sheet.specs.declared.fields.Sheet.{Sheet}
+use Rattle.sheet.specs.Bytes.{bigEndian, offsetBinary}
 use Rattle.sheet.specs.Sheet.{decoded, goalOf}
 use Rattle.sheet.specs.Search.{requirementOf, verdicts}
-use Rattle.sheet.specs.Answer.{answer}
-use Rattle.sheet.specs.Cases.{NoneHolds}
-use Rattle.sheet.specs.Refusals.{fieldCases, refusal}
+use Rattle.sheet.specs.Answer.{shapeCode, checkCode, lossCode, lossCheck, surfaceCheck, surfaceBound, answer}
+use Rattle.sheet.specs.Refusals.{fieldCases, cases, responseTo}
 
--- all 31 rungs miss
-abbrev pub AllInsufficient : (ℕ → Verdict) → Type 0
-AllInsufficient v = (r : ℕ) → r < rungs → v r ≡ Insufficient
+-- Demand 1: "The answer to every sheet … is the number of the first listed refusal, in the listed order, whose stated case holds, and is
+-- complete when none holds".
+abbrev pub Demand1 : Type 0
+Demand1 = (sheet : List ℕ) → FirstOrComplete (cases sheet) (answer sheet) (responseTo sheet)
+
+-- all rungs below r miss
+abbrev pub InsufficientBelow : (ℕ → Verdict) → ℕ → Type 0
+InsufficientBelow v r = (i : ℕ) → i < r → v i ≡ Insufficient
+
+-- Demand 2: "The thickness, the checks and the surface temperature are those that the paper's equations and whole-number figures give": the
+-- eight bytes, one after the other, the rung being "the first rung that doesn't miss" (01, "Ladder and figures"), which meets
+pub record AnswerTo (s : Sheet) (bytes : List ℕ) : Type 0 where
+  pub rung : ℕ
+  pub on-ladder : rung < rungs
+  pub meets : verdicts s rung ≡ Sufficient
+  pub first : InsufficientBelow (verdicts s) rung
+  pub size : length bytes ≡ 8
+  pub start : getD bytes 0 0 ≡ 0
+  pub shape : getD bytes 1 0 ≡ shapeCode (shapeOf (s .line))
+  pub thickness : bigEndian bytes 2 2 ≡ thicknessAt rung
+  pub loss : getD bytes 4 0 ≡ lossCode (lossCheck s (provided (s .line) (thicknessAt rung)))
+  pub surface : getD bytes 5 0 ≡ checkCode (surfaceCheck s (provided (s .line) (thicknessAt rung)))
+  pub bound : offsetBinary (bigEndian bytes 6 2) ≡ surfaceBound s (provided (s .line) (thicknessAt rung))
 
 -- some rung is open, and every rung below it misses
 abbrev pub FirstUndecided : (ℕ → Verdict) → Type 0
-FirstUndecided v = (r : ℕ) × (r < rungs) × (v r ≡ Undecided) × ((i : ℕ) → i < r → v i ≡ Insufficient)
+FirstUndecided v = (r : ℕ) × (r < rungs) × (v r ≡ Undecided) × InsufficientBelow v r
 
--- Demand 2: "refusals 17 and 18 come in their stated cases only".
-pub record StatedCases (sheet : List ℕ) : Type 0 where
-  pub seventeen : (refusal sheet ≡ 17) ↔ (NoneHolds (fieldCases sheet) × AllInsufficient (verdicts (decoded sheet)))
-  pub eighteen : (refusal sheet ≡ 18) ↔ (NoneHolds (fieldCases sheet) × FirstUndecided (verdicts (decoded sheet)))
+pub record Demand2 (sheet : List ℕ) : Type 0 where
+  pub answered : (bytes : List ℕ) → responseTo sheet ≡ complete bytes → AnswerTo (decoded sheet) bytes
+  -- "refusals 17 and 18 come in their stated cases only": "all 31 rungs miss", "the first rung that doesn't miss is open"
+  pub seventeen : (responseTo sheet ≡ refusedWith 17) ↔ (NoneHolds (fieldCases sheet) × InsufficientBelow (verdicts (decoded sheet)) rungs)
+  pub eighteen : (responseTo sheet ≡ refusedWith 18) ↔ (NoneHolds (fieldCases sheet) × FirstUndecided (verdicts (decoded sheet)))
 
 -- Demand 3: "For every answered sheet, every cutting of the logarithm's area that the paper allows, however fine, and every rung of the
 -- ladder: that rung equals the thickness we give exactly when it meets the exact equation on that cutting's under-sum and the rung below
@@ -36,9 +62,9 @@ pub record StatedCases (sheet : List ℕ) : Type 0 where
 -- equation alone judging both rungs".
 abbrev pub Demand3 : Type 0
 Demand3 =
-    (sheet : List ℕ) → refusal sheet ≡ 0 → (m : ℕ) → 1 ≤ m → (r : ℕ) → r < rungs →
+    (sheet bytes : List ℕ) → responseTo sheet ≡ complete bytes → (m : ℕ) → 1 ≤ m → (r : ℕ) → r < rungs →
     let s = decoded sheet in
     let required = requirementOf s (goalOf s) in
-    (bigEndian (answer sheet) 2 2 ≡ thicknessAt r) ↔
+    (bigEndian bytes 2 2 ≡ thicknessAt r) ↔
     (Meets required (providedExactly (lowerSum m) (s .line) (thicknessAt r)) ×
     ((r ≡ 0) ⊎ Misses required (providedExactly (upperSum m) (s .line) (thicknessAt (r - 1)))))

@@ -4,7 +4,8 @@ pub mod Ranges
 pub mod Search
 pub mod Limits
 pub mod Answer
-pub mod Cases
 pub mod Refusals
+pub mod Outcome
+pub mod Admitted
 pub mod Demands
 pub mod Worked

@@ -6,6 +6,8 @@ use mathlib.Core.List.{List, [], _∷_, _++_}
 use lib.Dec.{leb, ltb, eqb}
 use lib.ListN.{length}
 use Rattle.quadrature.specs.Ladder.{rungs}
+use Rattle.refusals.specs.Cases.{Case, case, firstHolding}
+use Rattle.refusals.specs.Response.{Response, respond}
 use Rattle.balance.specs.declared.goal.Goal.{Goal}
 use Rattle.balance.specs.declared.goal.Goal.the-variants.{Economy, Loss, Surface}
 use Rattle.balance.specs.declared.verdict.Verdict.{Verdict}
@@ -14,7 +16,7 @@ use Rattle.sheet.specs.declared.fields.Sheet.{Sheet}
 use Rattle.sheet.specs.Sheet.{decoded, surfaceAim, goalOf}
 use Rattle.sheet.specs.Ranges.{anyOutside, codes, ranges, mustBeZero}
 use Rattle.sheet.specs.Search.{verdicts, chosen}
-use Rattle.sheet.specs.Cases.{Case, case, firstHolding}
+use Rattle.sheet.specs.Answer.{answer}
 
 -- "16: goal 2 with aim 0; goal 3 unless ta < aim < t."
 abbrev pub aimRefused : Sheet → Goal → Bool
@@ -45,14 +47,20 @@ isUndecided Insufficient = false
 isUndecided Undecided = true
 
 -- the cases that try the ladder
-abbrev pub ladderCases : List ℕ → List Case
-ladderCases bytes =
-    let s = decoded bytes in
+abbrev pub ladderCases : Sheet → List Case
+ladderCases s =
     -- "17: all 31 rungs miss."
     case 17 (eqb (chosen s) rungs) ∷
     -- "18: the first rung that doesn't miss is open."
     case 18 (isUndecided (verdicts s (chosen s))) ∷
     []
 
+abbrev pub cases : List ℕ → List Case
+cases bytes = fieldCases bytes ++ ladderCases (decoded bytes)
+
 abbrev pub refusal : List ℕ → ℕ
-refusal bytes = firstHolding (fieldCases bytes ++ ladderCases bytes)
+refusal bytes = firstHolding (cases bytes)
+
+-- what the call that answers a sheet responds to its bytes
+abbrev pub responseTo : List ℕ → Response
+responseTo bytes = respond (cases bytes) (answer bytes)

@@ -1,10 +1,13 @@
 -- The thickness. 01, "Ladder and figures".
 -- Assumes nothing.
 use Prim.Native.Nat.{ℕ}
+use Rattle.fractions.specs.declared.Bounds.{Bounds}
+use Rattle.quadrature.specs.Ladder.{thicknessAt}
 use Rattle.balance.specs.declared.goal.Goal.{Goal}
 use Rattle.balance.specs.declared.verdict.Verdict.{Verdict}
-use Rattle.balance.specs.Required.{Requirement, requirement}
-use Rattle.balance.specs.Verdict.{verdictOf, firstNotInsufficient}
+use Rattle.balance.specs.Provided.{provided}
+use Rattle.balance.specs.Required.{Requirement, requirement, enclosing}
+use Rattle.balance.specs.Verdict.{judged, firstNotInsufficient}
 use Rattle.sheet.specs.declared.fields.Sheet.{Sheet}
 use Rattle.sheet.specs.Sheet.{difference, goalOf}
 
@@ -12,13 +15,13 @@ use Rattle.sheet.specs.Sheet.{difference, goalOf}
 abbrev pub requirementOf : Sheet → Goal → Requirement
 requirementOf s goal = requirement (s .line) (difference s) goal
 
--- the verdict on rung r against a goal
-abbrev pub verdictAt : Sheet → Goal → ℕ → Verdict
-verdictAt s goal r = verdictOf (s .line) (requirementOf s goal) r
+-- the verdict on a rung that provides p, against a goal
+abbrev pub verdictOn : Sheet → Bounds → Goal → Verdict
+verdictOn s p goal = judged p (enclosing (requirementOf s goal))
 
--- the same against the sheet's own goal
+-- the verdict on the rung with index r, against the sheet's own goal
 abbrev pub verdicts : Sheet → ℕ → Verdict
-verdicts s = verdictAt s (goalOf s)
+verdicts s r = verdictOn s (provided (s .line) (thicknessAt r)) (goalOf s)
 
 -- "The first rung that doesn't miss is the thickness if it meets.": the index of that rung
 abbrev pub chosen : Sheet → ℕ

@@ -14,7 +14,7 @@ use Rattle.sheet.specs.Search.{requirementOf}
 use Rattle.sheet.specs.Limits.{lossLimit, surfaceLimit}
 use Rattle.sheet.specs.Answer.{answer}
 use Rattle.sheet.specs.Refusals.{fieldCases, refusal}
-use Rattle.sheet.specs.Cases.{NoneHolds}
+use Rattle.refusals.specs.Cases.{NoneHolds}
 
 -- "Sheet F: goal 2, service 1, line 7, D 12,000, t 1,300, ta 200, L 400, α 800, aim 800", for any goal and aim
 abbrev pub sheetF : ℕ → ℕ → List ℕ

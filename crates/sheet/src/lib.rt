@@ -1,5 +1,13 @@
-// A sheet: its fields and the limits that bear on it.
+// A sheet and its answer.
+mod checks;
+mod encoding;
 mod fields;
 mod limits;
+mod outcome;
+mod ranges;
 
+pub use encoding::Answer;
+pub use encoding::LossCheck;
 pub use fields::Sheet;
+pub use outcome::Outcome;
+pub use outcome::work_out;

@@ -2,6 +2,7 @@
 -- Assumes nothing.
 use Prim.Native.Nat.{ℕ}
 use mathlib.Core.Path.{_≡_}
+use mathlib.Core.Logic.{_⊎_}
 use mathlib.Core.Bool.{Bool, true, false}
 use mathlib.Core.List.{List, [], _∷_}
 
@@ -22,3 +23,8 @@ firstHolding (c ∷ cs) = elim (c .holds) [ true ↦ c .number | false ↦ first
 unfoldable pub NoneHolds : List Case → Type 0
 NoneHolds [] = Unit {0}
 NoneHolds (c ∷ cs) = (c .holds ≡ false) × NoneHolds cs
+
+-- n is the number of the first case of a list that holds
+unfoldable pub FirstHolds : ℕ → List Case → Type 0
+FirstHolds n [] = ⊥
+FirstHolds n (c ∷ cs) = ((c .holds ≡ true) × (c .number ≡ n)) ⊎ ((c .holds ≡ false) × FirstHolds n cs)

@@ -1,14 +1,13 @@
 -- The first case that holds.
 -- Assumes nothing.
 use mathlib.Core.Path.{_≡_, refl}
-use mathlib.Core.Bool.{Bool, true, false, not, _&&_, _||_, and-eq-true-iff, true≢false, false≢true}
+use mathlib.Core.Bool.{Bool, true, false, not, _&&_, and-eq-true-iff, false≢true}
 use mathlib.Core.List.{List, [], _∷_, _++_, append-nil}
-use Prim.Native.Nat.{ℕ, _≤_, _<_}
+use Prim.Native.Nat.{ℕ, _<_}
 use native.Mathlib.Omega.{arith}
-use lib.Dec.{eqb, ltb}
-use borrow.Author.Tests.{eq-eqb, ltb-false}
-use Rattle.sheet.specs.Ranges.{Field, outside, anyOutside}
-use Rattle.sheet.specs.Cases.{Case, case, firstHolding, NoneHolds}
+use lib.Dec.{eqb}
+use borrow.Author.Tests.{eq-eqb}
+use Rattle.refusals.specs.Cases.{Case, case, firstHolding, NoneHolds}
 
 -- no case of the list has the number n
 unfoldable pub absent : ℕ → List Case → Bool
@@ -38,20 +37,3 @@ pub first-after : (cs ds : List Case) → NoneHolds cs → firstHolding (cs ++ d
 unfolding firstHolding NoneHolds
 first-after [] ds f = refl
 first-after (c ∷ cs) ds f = rw (f .0) (first-after cs ds (f .1))
-
--- A list of fields that are all inside their ranges, field by field.
-pub record Inside (f : Field) (fs : List Field) : Type 0 where
-  pub least : f .least ≤ f .value
-  pub most : f .value ≤ f .most
-  pub rest : anyOutside fs ≡ false
-
-or-false-both : (a b : Bool) → a || b ≡ false → (a ≡ false) × (b ≡ false)
-or-false-both true b e = absurd (true≢false e)
-or-false-both false b e = (refl, e)
-
-pub inside : (f : Field) (fs : List Field) → anyOutside (f ∷ fs) ≡ false → Inside f fs
-unfolding anyOutside
-inside f fs e =
-    let parts = or-false-both (outside f) (anyOutside fs) e in
-    let ends = or-false-both (ltb (f .value) (f .least)) (ltb (f .most) (f .value)) (parts .0) in
-    record { least = ltb-false _ _ (ends .0); most = ltb-false _ _ (ends .1); rest = parts .1 }

@@ -1,0 +1,17 @@
+-- The search of the ladder, as the code answers it. 01, "Ladder and figures".
+-- Assumes nothing.
+use mathlib.Core.Bool.{cond}
+use lib.Dec.{ltb}
+use Rattle.fractions.specs.declared.Bounds.{Bounds}
+use Rattle.quadrature.specs.Ladder.{rungs, thicknessAt}
+use Rattle.balance.specs.declared.line.Line.{Line}
+use Rattle.balance.specs.declared.choice.Choice.{Choice}
+use Rattle.balance.specs.declared.choice.Choice.the-variants.{Rung, AllInsufficient}
+use Rattle.balance.specs.Provided.{provided}
+use Rattle.balance.specs.Verdict.{judged, firstNotInsufficient}
+
+-- "The first rung that doesn't miss", q being required of the line l, with what it provides
+abbrev pub searched : Line → Bounds → Choice
+searched l q =
+    let r = firstNotInsufficient (λ i. judged (provided l (thicknessAt i)) q) in
+    cond (ltb r rungs) (Rung r (provided l (thicknessAt r))) AllInsufficient

@@ -1,0 +1,34 @@
+// Why a call sends back what it was given.
+ghost use mathlib.Core.Path.{_≡_};
+ghost use Rattle.refusals.specs.Numbers.{numberOf};
+
+pub enum Refusal {
+    // Of a sheet: its length, an unknown goal or service, a field outside its range, a field that must be zero.
+    SheetLength,
+    UnknownCode,
+    OutOfRange,
+    NotZero,
+    // The pipe is not warmer than the air; the aim is none that insulation can reach.
+    NotWarmer,
+    AimOutOfReach,
+    // No thickness of the ladder is enough; the first that may be enough is not known to be.
+    NoneSufficient,
+    TooClose,
+}
+
+impl Refusal {
+    pub fn number(self) -> u8
+        ensures { λ r. ⌜ r ≡ numberOf self ⌝ }
+    {
+        match self {
+            Refusal::SheetLength => 11,
+            Refusal::UnknownCode => 12,
+            Refusal::OutOfRange => 13,
+            Refusal::NotZero => 14,
+            Refusal::NotWarmer => 15,
+            Refusal::AimOutOfReach => 16,
+            Refusal::NoneSufficient => 17,
+            Refusal::TooClose => 18,
+        }
+    }
+}

@@ -1,0 +1,93 @@
+// An answer, and its eight bytes.
+ghost use mathlib.Core.Path.{_≡_};
+ghost use Prim.Native.Nat.{_/_, _%_, _^_};
+ghost use Rattle.sheet.specs.Bytes.{offsetBinary};
+ghost use Rattle.sheet.specs.Answer.{shapeCode, checkCode, lossCode, encoded};
+use crate::fields::ZERO;
+use balance::Shape;
+use balance::Verdict;
+use quadrature::Thickness;
+
+pub enum LossCheck {
+    Judged(Verdict),
+    NonePrinted,
+}
+
+// The thickness with its two checks, and the temperature that the surface stays at or below, counted in 0.1 °C from −3,276.8 °C.
+pub struct Answer {
+    pub shape: Shape,
+    pub thickness: Thickness,
+    pub loss: LossCheck,
+    pub surface: Verdict,
+    pub bound: u16,
+}
+
+impl Answer {
+    pub fn encode(self) -> [u8; 8]
+        ensures { λ r. ⌜ r ≡ encoded self ⌝ }
+    {
+        let shape = self.shape;
+        let thickness = self.thickness.0;
+        let loss = self.loss;
+        let surface = self.surface;
+        let bound = two_complement(self.bound);
+        [
+            0,
+            shape_code(shape),
+            high(thickness),
+            low(thickness),
+            loss_code(loss),
+            check_code(surface),
+            high(bound),
+            low(bound),
+        ]
+    }
+}
+
+fn shape_code(shape: Shape) -> u8
+    ensures { λ r. ⌜ r ≡ shapeCode shape ⌝ }
+{
+    match shape {
+        Shape::Cylinder => 1,
+        Shape::Flat => 2,
+    }
+}
+
+fn check_code(verdict: Verdict) -> u8
+    ensures { λ r. ⌜ r ≡ checkCode verdict ⌝ }
+{
+    match verdict {
+        Verdict::Sufficient => 0,
+        Verdict::Insufficient => 1,
+        Verdict::Undecided => 2,
+    }
+}
+
+fn loss_code(check: LossCheck) -> u8
+    ensures { λ r. ⌜ r ≡ lossCode check ⌝ }
+{
+    match check {
+        LossCheck::Judged(verdict) => check_code(verdict),
+        LossCheck::NonePrinted => 3,
+    }
+}
+
+// A count from −32,768 in two's complement.
+fn two_complement(count: u16) -> u16
+    ensures { λ r. ⌜ r ≡ offsetBinary count ⌝ }
+{
+    ((count as u64 + ZERO) % 65_536) as u16
+}
+
+// The first and the second of a number's two bytes.
+fn high(x: u16) -> u8
+    ensures { λ r. ⌜ r ≡ x / 256 ^ 1 % 256 ⌝ }
+{
+    (x / 256) as u8
+}
+
+fn low(x: u16) -> u8
+    ensures { λ r. ⌜ r ≡ x / 256 ^ 0 % 256 ⌝ }
+{
+    (x % 256) as u8
+}

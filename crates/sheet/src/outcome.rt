@@ -1,0 +1,80 @@
+// The call that answers a sheet.
+ghost use mathlib.Core.Path.{_≡_};
+ghost use Rattle.quadrature.specs.Ladder.{thicknessAt};
+ghost use Rattle.refusals.specs.Response.{respond};
+ghost use Rattle.balance.specs.Provided.{provided as Provided·provided};
+ghost use Rattle.sheet.specs.Search.{chosen};
+ghost use Rattle.sheet.specs.Answer.{encoded, answerOf};
+ghost use Rattle.sheet.specs.Refusals.{ladderCases, responseTo};
+ghost use Rattle.sheet.specs.Outcome.{response};
+ghost use Rattle.sheet.specs.Admitted.{Admitted};
+use crate::Answer;
+use crate::Sheet;
+use balance::Choice;
+use balance::Provision;
+use balance::Verdict;
+use balance::judge;
+use fractions::Bounds;
+use quadrature::Ladder;
+use refusals::Refusal;
+
+pub enum Outcome {
+    Refused(Refusal),
+    Answered(Answer),
+}
+
+// Works out the sheet that these bytes are.
+pub fn work_out(bytes: &[u8]) -> Outcome
+    ensures { λ r. ⌜ response r ≡ responseTo (now (bytes .entry)) ⌝ }
+{
+    if bytes.len() != 24 {
+        return Outcome::Refused(Refusal::SheetLength);
+    }
+    let sheet = Sheet::decode(bytes);
+    if sheet.code_unknown() {
+        return Outcome::Refused(Refusal::UnknownCode);
+    }
+    if sheet.out_of_range() {
+        return Outcome::Refused(Refusal::OutOfRange);
+    }
+    if sheet.not_zero() {
+        return Outcome::Refused(Refusal::NotZero);
+    }
+    if sheet.temperature <= sheet.ambient {
+        return Outcome::Refused(Refusal::NotWarmer);
+    }
+    if sheet.aim_out_of_reach() {
+        return Outcome::Refused(Refusal::AimOutOfReach);
+    }
+    search_ladder(sheet)
+}
+
+// Tries the ladder for an admitted sheet.
+fn search_ladder(sheet: Sheet) -> Outcome
+    requires { ⌜ Admitted sheet ⌝ }
+    ensures { λ r. ⌜ response r ≡ respond (ladderCases sheet) (encoded (answerOf sheet (chosen sheet))) ⌝ }
+{
+    let required = sheet.required(sheet.goal());
+    match Provision::of(sheet.line).search(required) {
+        Choice::AllInsufficient => Outcome::Refused(Refusal::NoneSufficient),
+        Choice::Rung(r, provided) => match judge(provided, required) {
+            Verdict::Sufficient => Outcome::Answered(answer_of(sheet, r, provided)),
+            Verdict::Insufficient => Outcome::Refused(Refusal::TooClose),
+            Verdict::Undecided => Outcome::Refused(Refusal::TooClose),
+        },
+    }
+}
+
+// The answer with the rung of index r, which provides `provided`.
+fn answer_of(sheet: Sheet, r: u64, provided: Bounds) -> Answer
+    requires { ⌜ Admitted sheet × (provided ≡ Provided·provided (sheet .line) (thicknessAt r)) ⌝ }
+    ensures { λ a. ⌜ a ≡ answerOf sheet r ⌝ }
+{
+    Answer {
+        shape: sheet.line.shape(),
+        thickness: Ladder::thickness(r),
+        loss: sheet.loss_check(provided),
+        surface: sheet.surface_check(provided),
+        bound: sheet.surface_bound(provided),
+    }
+}

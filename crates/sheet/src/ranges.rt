@@ -1,0 +1,80 @@
+// What is wrong with a sheet, before a thickness is sought.
+ghost use mathlib.Core.Path.{_≡_};
+ghost use mathlib.Core.List.{List};
+ghost use Prim.Native.Nat.{ℕ};
+ghost use Rattle.sheet.specs.Sheet.{decoded, surfaceAim, goalOf};
+ghost use Rattle.sheet.specs.Ranges.{fieldOf, anyOutside, codes, ranges, economyFields, mustBeZero};
+ghost use Rattle.sheet.specs.Ranges.{outside as Ranges·outside};
+ghost use Rattle.sheet.specs.Refusals.{aimRefused};
+use crate::Sheet;
+use crate::fields::ZERO;
+
+impl Sheet {
+    // Is the goal or the service unknown?
+    pub(crate) fn code_unknown(self) -> bool
+        ensures { λ r. ⌜ ((bytes : List ℕ) → self ≡ decoded bytes → r ≡ anyOutside (codes bytes)) ⌝ }
+    {
+        outside(self.goal, 1, 3) | outside(self.service, 1, 2)
+    }
+
+    // Is a field outside its range?
+    pub(crate) fn out_of_range(self) -> bool
+        ensures { λ r. ⌜ ((bytes : List ℕ) → self ≡ decoded bytes → r ≡ anyOutside (ranges bytes)) ⌝ }
+    {
+        let economy = (self.goal == 1) & self.economy_out_of_range();
+        outside(self.line.diameter.0, 100, 65_535)
+            | (outside(self.temperature, ZERO - 500, ZERO + 6_500)
+                | (outside(self.ambient, ZERO - 500, ZERO + 500)
+                    | (outside(self.line.conductivity, 1, 2_000)
+                        | (outside(self.line.coefficient, 100, 10_000) | economy))))
+    }
+
+    // Is a field that only the economy goal uses outside its range?
+    fn economy_out_of_range(self) -> bool
+        ensures { λ r. ⌜ ((bytes : List ℕ) → self ≡ decoded bytes → r ≡ anyOutside (economyFields bytes)) ⌝ }
+    {
+        outside(self.economy.heat, 1, 65_535)
+            | (outside(self.economy.hours, 1, 8_784)
+                | (outside(self.economy.insulation, 1, 65_535)
+                    | outside(self.economy.share, 1, 10_000)))
+    }
+
+    // Is a field not zero that the goal does not use?
+    pub(crate) fn not_zero(self) -> bool
+        ensures { λ r. ⌜ ((bytes : List ℕ) → self ≡ decoded bytes → r ≡ anyOutside (mustBeZero bytes)) ⌝ }
+    {
+        if self.goal == 1 {
+            return outside(self.aim, 0, 0);
+        }
+        outside(self.economy.heat, 0, 0)
+            | (outside(self.economy.hours, 0, 0)
+                | (outside(self.economy.insulation, 0, 0) | outside(self.economy.share, 0, 0)))
+    }
+
+    // The surface aim, counted from −3,276.8 °C.
+    pub(crate) fn surface_aim(self) -> u64
+        ensures { λ r. ⌜ r ≡ surfaceAim self ⌝ }
+    {
+        (self.aim % 65_536 + ZERO) % 65_536
+    }
+
+    // Is the aim none that insulation can reach?
+    pub(crate) fn aim_out_of_reach(self) -> bool
+        ensures { λ r. ⌜ r ≡ aimRefused self (goalOf self) ⌝ }
+    {
+        if self.goal == 1 {
+            return false;
+        }
+        if self.goal == 2 {
+            return self.aim == 0;
+        }
+        let aim = self.surface_aim();
+        !((self.ambient < aim) & (aim < self.temperature))
+    }
+}
+
+fn outside(value: u64, least: u64, most: u64) -> bool
+    ensures { λ r. ⌜ ((offset : ℕ) → r ≡ Ranges·outside (fieldOf offset value least most)) ⌝ }
+{
+    (value < least) | (most < value)
+}
