@@ -3,11 +3,10 @@
 use Prim.Native.Nat.{ℕ, zero, suc, _+_}
 use mathlib.Core.List.{List, [], _∷_, _++_}
 use Rattle.annex_tables.specs.Annex.{entries, annexEntry}
-use Rattle.text.specs.Text.{decimal}
+use Rattle.text.specs.Text.{ascii, decimal}
 
--- "mm under over", and the end of the line
 abbrev pub header : List ℕ
-header = 109 ∷ 109 ∷ 32 ∷ 117 ∷ 110 ∷ 100 ∷ 101 ∷ 114 ∷ 32 ∷ 111 ∷ 118 ∷ 101 ∷ 114 ∷ 10 ∷ []
+header = ascii "mm under over\n"
 
 -- a number and the byte after it
 abbrev pub field : ℕ → ℕ → List ℕ

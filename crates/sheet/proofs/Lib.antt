@@ -3,6 +3,6 @@ pub mod Ladder
 pub mod Admitted
 pub mod Demands
 pub mod Worked
-pub mod Signed
+pub mod TwosComplement
 mod Rows
 pub mod Examples

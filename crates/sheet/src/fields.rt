@@ -51,8 +51,8 @@ impl Sheet {
     }
 }
 
-// The two bytes from place at on, big-endian.
-fn unsigned(bytes: &[u8], at: usize) -> u64
+// The number in the two bytes from place at on, big-endian.
+pub fn unsigned(bytes: &[u8], at: usize) -> u64
     requires { ⌜ at + 1 < length (now bytes) ⌝ }
     ensures { λ r. ⌜ (r ≡ bigEndian (now (bytes .entry)) at 2) × (r < 65_536) ⌝ }
 {
@@ -60,7 +60,7 @@ fn unsigned(bytes: &[u8], at: usize) -> u64
 }
 
 // The same as a signed number, counted from −32,768.
-fn signed(bytes: &[u8], at: usize) -> u64
+pub fn signed(bytes: &[u8], at: usize) -> u64
     requires { ⌜ at + 1 < length (now bytes) ⌝ }
     ensures { λ r. ⌜ r ≡ offsetBinary (bigEndian (now (bytes .entry)) at 2) ⌝ }
 {

@@ -9,5 +9,7 @@ mod ranges;
 pub use encoding::Answer;
 pub use encoding::LossCheck;
 pub use fields::Sheet;
+pub use fields::signed;
+pub use fields::unsigned;
 pub use outcome::Outcome;
 pub use outcome::work_out;

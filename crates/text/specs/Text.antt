@@ -1,11 +1,19 @@
 -- Text as lists of bytes.
 -- Assumes nothing.
 use Prim.Native.Nat.{ℕ, zero, suc, _+_, _/_, _%_}
+use Prim.Native.Char.{code}
+use Prim.Native.String.{String}
+use Prim.Native.String as Quoted
 use mathlib.Core.Path.{_≡_}
 use mathlib.Core.Bool.{true, false}
 use mathlib.Core.List.{List, [], _∷_, _++_}
 use lib.Dec.{ltb}
 use lib.ListN.{length, take, drop}
+
+-- a text in quotes, in ASCII
+abbrev pub ascii : String → List ℕ
+ascii Quoted.[] = []
+ascii (Quoted._∷_ c s) = code c ∷ ascii s
 
 -- b with the bytes of v from place at on
 unfoldable pub overlay : List ℕ → ℕ → List ℕ → List ℕ

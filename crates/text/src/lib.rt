@@ -16,6 +16,7 @@ pub fn put(out: &mut [u8], at: usize, piece: &[u8]) -> usize
 pub fn put_decimal(out: &mut [u8], at: usize, n: u64) -> usize
     requires { ⌜ at + 20 ≤ length (now out) ⌝ }
     ensures { λ r. ⌜ Written (now (out .entry)) at (decimal n) (now (out .exit)) r ⌝ }
+    ensures { λ r. ⌜ r ≤ at + 20 ⌝ }
 {
     let mut digits = [0u8; 20];
     let k = io::decimal(n, &mut digits);

@@ -32,7 +32,8 @@ same-length c = search needs
 returns : tie.Need-returns
 returns c =
     let put = c .before .before in
-    rw (spelt (put .before .before .before)) at (put .put .ensures)
+    let written = rw (spelt (put .before .before .before)) at (put .put .ensures) in
+    (written, omega (arith, written .end, short 19 (put .before .before .before .before .before .before .args .n) (omega arith)))
 
 pub put-decimal-spec : {M : Type 1} → statement M
 put-decimal-spec =

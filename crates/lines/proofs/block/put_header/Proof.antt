@@ -1,0 +1,28 @@
+-- The header meets its contract.
+-- Assumes nothing.
+use mathlib.Core.Path.{sym}
+use Prim.Native.Nat.{_≤_}
+use native.Mathlib.Omega.{arith}
+use lib.ListN.{length}
+use lib.Seq.{length-take-le}
+use borrow.Author.Needs.{needs}
+use Rattle.lines.proofs.block.put_header.Statement.{statement}
+use Rattle.lines.proofs.block.put_header.Tie as tie
+
+slice-aggregate-put : tie.Need-slice-aggregate-put
+slice-aggregate-put c = search needs
+
+put-requires : tie.Need-put-requires
+put-requires c κs = search needs
+
+same-length : tie.Need-same-length
+same-length c = search needs
+
+returns : tie.Need-returns
+returns c =
+    let put = c .before .before .put in
+    let within : put .result ≤ length (put .last .0) = omega (arith, put .ensures .end) in
+    (put .ensures, (within, sym (length-take-le (put .result) (put .last .0) within)))
+
+pub put-header-spec : {M : Type 1} → statement M
+put-header-spec = tie.close (tie.spec slice-aggregate-put put-requires same-length returns)

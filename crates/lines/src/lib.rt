@@ -1,0 +1,8 @@
+// The listing's text.
+mod block;
+mod line;
+mod words;
+
+pub use block::put_header;
+pub use block::put_lines;
+pub use line::put_line;
