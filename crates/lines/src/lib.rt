@@ -6,3 +6,4 @@ mod words;
 pub use block::put_header;
 pub use block::put_lines;
 pub use line::put_line;
+pub use line::put_refusal;

@@ -1,14 +1,17 @@
 // A line of the listing.
 ghost use mathlib.Core.Path.{_≡_};
-ghost use Prim.Native.Nat.{_+_, _≤_, _<_};
+ghost use Prim.Native.Nat.{_+_, _≤_};
 ghost use lib.ListN.{length};
+ghost use Rattle.io.specs.Counts.{Counts};
 ghost use Rattle.text.specs.Text.{Written};
+ghost use Rattle.refusals.specs.Numbers.{numberOf};
 ghost use Rattle.refusals.specs.Response.{refusedWith};
 ghost use Rattle.sheet.specs.Refusals.{responseTo};
 ghost use Rattle.lines.specs.Line.{thicknessText, checksText, answerText, responseText, numberText, lineOf};
 use crate::words::put_check;
 use crate::words::put_degrees;
 use crate::words::put_shape;
+use refusals::Refusal;
 use sheet::Outcome;
 use sheet::signed;
 use sheet::unsigned;
@@ -20,6 +23,7 @@ use text::put_decimal;
 pub fn put_line(out: &mut [u8], at: usize, sheet: &[u8]) -> usize
     requires { ⌜ at + 108 ≤ length (now out) ⌝ }
     ensures { λ r. ⌜ Written (now (out .entry)) at (lineOf (now (sheet .entry))) (now (out .exit)) r ⌝ }
+    ensures { λ r. ⌜ Counts r (now (out .exit)) ⌝ }
     ensures { λ r. ⌜ r ≤ at + 108 ⌝ }
 {
     let number = put_number(out, at, sheet);
@@ -47,7 +51,7 @@ fn put_response(out: &mut [u8], at: usize, sheet: &[u8]) -> usize
     ensures { λ r. ⌜ r ≤ at + 86 ⌝ }
 {
     match work_out(sheet) {
-        Outcome::Refused(why) => put_refusal(out, at, why.number()),
+        Outcome::Refused(why) => put_refusal(out, at, why),
         Outcome::Answered(answer) => {
             let bytes = answer.encode();
             put_answer(out, at, &bytes)
@@ -56,13 +60,14 @@ fn put_response(out: &mut [u8], at: usize, sheet: &[u8]) -> usize
 }
 
 // The word refused and the refusal's number.
-fn put_refusal(out: &mut [u8], at: usize, number: u8) -> usize
-    requires { ⌜ (0 < number) × (at + 28 ≤ length (now out)) ⌝ }
-    ensures { λ r. ⌜ Written (now (out .entry)) at (responseText (refusedWith number)) (now (out .exit)) r ⌝ }
+pub fn put_refusal(out: &mut [u8], at: usize, why: Refusal) -> usize
+    requires { ⌜ at + 28 ≤ length (now out) ⌝ }
+    ensures { λ r. ⌜ Written (now (out .entry)) at (responseText (refusedWith (numberOf why))) (now (out .exit)) r ⌝ }
+    ensures { λ r. ⌜ Counts r (now (out .exit)) ⌝ }
     ensures { λ r. ⌜ r ≤ at + 28 ⌝ }
 {
     let digits = put(out, at, b"refused ");
-    put_decimal(out, digits, number as u64)
+    put_decimal(out, digits, why.number() as u64)
 }
 
 // The eight bytes of an answer, in words and figures.

@@ -31,19 +31,24 @@ pub fn work_out(bytes: &[u8]) -> Outcome
         return Outcome::Refused(Refusal::SheetLength);
     }
     let sheet = Sheet::decode(bytes);
-    if sheet.code_unknown() {
+    let unknown = sheet.code_unknown();
+    let outside = sheet.out_of_range();
+    let unused = sheet.not_zero();
+    let colder = sheet.temperature <= sheet.ambient;
+    let beyond = sheet.aim_out_of_reach();
+    if unknown {
         return Outcome::Refused(Refusal::UnknownCode);
     }
-    if sheet.out_of_range() {
+    if outside {
         return Outcome::Refused(Refusal::OutOfRange);
     }
-    if sheet.not_zero() {
+    if unused {
         return Outcome::Refused(Refusal::NotZero);
     }
-    if sheet.temperature <= sheet.ambient {
+    if colder {
         return Outcome::Refused(Refusal::NotWarmer);
     }
-    if sheet.aim_out_of_reach() {
+    if beyond {
         return Outcome::Refused(Refusal::AimOutOfReach);
     }
     search_ladder(sheet)

@@ -1,6 +1,10 @@
 -- A line meets its contract.
 -- Assumes nothing.
+use mathlib.Core.Path.{sym}
+use Prim.Native.Nat.{_≤_}
 use native.Mathlib.Omega.{arith}
+use lib.ListN.{length}
+use lib.Seq.{length-take-le}
 use Rattle.text.proofs.Overlay.{then}
 use Rattle.lines.specs.Line.{lineOf}
 use borrow.Author.Needs.{needs}
@@ -34,9 +38,11 @@ returns c =
     let number = c .before .before .before .before .before .before .before .before .before .before .before .before .before .before .before .before .put-number .ensures in
     let space = c .before .before .before .before .before .before .before .before .before .before .before .put .ensures in
     let response = c .before .before .before .before .before .before .before .put-response .ensures in
-    let last = c .before .before .put2 .ensures in
+    let last-put = c .before .before .put2 in
+    let last = last-put .ensures in
     let written = then (then (number .0) (omega arith) space) (omega (arith, space .end)) (response .0) in
-    (then written (omega (arith, space .end)) last, omega (arith, space .end, last .end))
+    let within : last-put .result ≤ length (last-put .last .0) = omega (arith, space .end, last .end) in
+    (then written (omega (arith, space .end)) last, ((within, sym (length-take-le (last-put .result) (last-put .last .0) within)), omega (arith, space .end, last .end)))
 
 pub put-line-spec : {M : Type 1} → statement M
 put-line-spec =

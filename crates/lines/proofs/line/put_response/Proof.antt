@@ -2,8 +2,7 @@
 -- Assumes nothing.
 use mathlib.Core.Path.{_≡_, sym, ap, _∙_}
 use native.Mathlib.Omega.{arith}
-use Rattle.refusals.specs.Response.{refusedWith, complete}
-use Rattle.refusals.proofs.Numbers.{number-above-0}
+use Rattle.refusals.specs.Response.{complete}
 use Rattle.sheet.specs.Outcome.{response}
 use Rattle.lines.specs.Line.{responseText}
 use borrow.Author.Needs.{needs}
@@ -16,13 +15,8 @@ work-out-requires c κs = search needs
 enum-known-why : tie.Need-enum-known-why
 enum-known-why c = search needs
 
-number-requires : tie.Need-number-requires
-number-requires c κs = search needs
-
 put-refusal-requires : tie.Need-put-refusal-requires
-put-refusal-requires c κs =
-    let why = c .before .before .before .why .given .0 .0 in
-    (omega (arith, c .number .ensures, number-above-0 why), omega arith)
+put-refusal-requires c κs = search needs
 
 enum-known-answer : tie.Need-enum-known-answer
 enum-known-answer c = search needs
@@ -42,7 +36,7 @@ same-length c = search needs
 returns : tie.Need-returns
 returns c =
     let put = c .before .before .put-refusal .ensures in
-    let is = ap refusedWith (c .before .before .before .number .ensures) ∙ sym (ap response (c .before .before .before .before .before .before .why .given .1)) ∙ c .before .before .before .before .before .before .before .before .work-out .ensures in
+    let is = sym (ap response (c .before .before .before .before .before .why .given .1)) ∙ c .before .before .before .before .before .before .before .work-out .ensures in
     (rw is at (put .0), omega arith)
 
 same-length-2 : tie.Need-same-length-2
@@ -61,7 +55,6 @@ put-response-spec =
     (tie.spec
     work-out-requires
     enum-known-why
-    number-requires
     put-refusal-requires
     enum-known-answer
     encode-requires

@@ -6,7 +6,7 @@ use mathlib.Core.List.{List, [], _∷_, _++_}
 use Prim.Native.Nat.{ℕ, suc}
 use lib.Dec.{leb, eqb}
 use lib.ListN.{length, take, drop}
-use borrow.Author.Tests.{eq-eqb, ne-eqb, le-leb, lt-leb}
+use borrow.Author.Tests.{eq-eqb, ne-eqb}
 use denote.Ref.{now}
 use Rattle.refusals.specs.Cases.{Case, case, NoneHolds}
 use Rattle.refusals.specs.Response.{refusedWith, respond}
@@ -21,56 +21,41 @@ use borrow.Author.Needs.{needs}
 use Rattle.sheet.proofs.outcome.work_out.Statement.{statement}
 use Rattle.sheet.proofs.outcome.work_out.Tie as tie
 
--- what each test that was passed told of the sheet's bytes
-not-11 : (c : tie.Else1) → not (eqb (length (now (c .before .before .args .bytes))) 24) ≡ false
-not-11 c = rw (eq-eqb (length (now (c .before .before .args .bytes))) 24 (c .if1 .left))
+-- what each test tells of the sheet's bytes
+module _ (c : tie.After-aim-out-of-reach) where
+  abbrev sheet-bytes : List ℕ
+  sheet-bytes = now (c .before .before .before .before .before .before .before .before .args .bytes)
 
-not-12 : (c : tie.Else2) → anyOutside (codes (now (c .before .before .before .before .before .args .bytes))) ≡ false
-not-12 c = sym (c .before .code-unknown .ensures _ (c .before .before .decode .ensures)) ∙ c .if2 .left
+  length-24 : not (eqb (length sheet-bytes) 24) ≡ false
+  length-24 = rw (eq-eqb (length sheet-bytes) 24 (c .before .before .before .before .before .before .if1 .left))
 
-not-13 : (c : tie.Else3) → anyOutside (ranges (now (c .before .before .before .before .before .before .before .args .bytes))) ≡ false
-not-13 c = sym (c .before .out-of-range .ensures _ (c .before .before .before .before .decode .ensures)) ∙ c .if3 .left
+  unknown : anyOutside (codes sheet-bytes) ≡ c .before .before .before .before .code-unknown .result
+  unknown = sym (c .before .before .before .before .code-unknown .ensures sheet-bytes (c .before .before .before .before .before .decode .ensures))
 
-not-14 : (c : tie.Else4) → anyOutside (mustBeZero (now (c .before .before .before .before .before .before .before .before .before .args .bytes))) ≡ false
-not-14 c = sym (c .before .not-zero .ensures _ (c .before .before .before .before .before .before .decode .ensures)) ∙ c .if4 .left
+  outside : anyOutside (ranges sheet-bytes) ≡ c .before .before .before .out-of-range .result
+  outside = sym (c .before .before .before .out-of-range .ensures sheet-bytes (c .before .before .before .before .before .decode .ensures))
 
-not-15 : (c : tie.Else5) → let s = decoded (now (c .before .before .before .before .before .before .before .before .before .before .before .args .bytes)) in leb (s .temperature) (s .ambient) ≡ false
-not-15 c = rw (← c .before .before .before .before .before .before .before .before .decode .ensures) (lt-leb _ _ (c .if5 .left))
+  unused : anyOutside (mustBeZero sheet-bytes) ≡ c .before .before .not-zero .result
+  unused = sym (c .before .before .not-zero .ensures sheet-bytes (c .before .before .before .before .before .decode .ensures))
 
-not-16 : (c : tie.Else6) → let s = decoded (now (c .before .before .before .before .before .before .before .before .before .before .before .before .before .args .bytes)) in aimRefused s (goalOf s) ≡ false
-not-16 c = rw (← c .before .before .before .before .before .before .before .before .before .before .decode .ensures) (sym (c .before .aim-out-of-reach .ensures) ∙ c .if6 .left)
+  colder : leb (decoded sheet-bytes .temperature) (decoded sheet-bytes .ambient) ≡ leb (c .before .before .before .before .before .decode .result .temperature) (c .before .before .before .before .before .decode .result .ambient)
+  colder = rw (c .before .before .before .before .before .decode .ensures)
 
-none-1 : (c : tie.Else1) → NoneHolds (take 1 (fieldCases (now (c .before .before .args .bytes))))
+  beyond : aimRefused (decoded sheet-bytes) (goalOf (decoded sheet-bytes)) ≡ c .aim-out-of-reach .result
+  beyond = sym (c .aim-out-of-reach .ensures ∙ ap (λ (s : Sheet). aimRefused s (goalOf s)) (c .before .before .before .before .before .decode .ensures))
+
+-- cases 11 to 16 fail
+passed : (c : tie.Else6) → NoneHolds (fieldCases (sheet-bytes (c .before .before .before .before .before)))
 unfolding NoneHolds
-none-1 c = (not-11 c, tt)
+passed c = let a = c .before .before .before .before .before in (length-24 a, (unknown a ∙ c .before .before .before .before .if2 .left, (outside a ∙ c .before .before .before .if3 .left, (unused a ∙ c .before .before .if4 .left, (colder a ∙ c .before .if5 .left, (beyond a ∙ c .if6 .left, tt))))))
 
-none-2 : (c : tie.Else2) → NoneHolds (take 2 (fieldCases (now (c .before .before .before .before .before .args .bytes))))
-unfolding NoneHolds
-none-2 c = (not-11 (c .before .before .before), (not-12 c, tt))
-
-none-3 : (c : tie.Else3) → NoneHolds (take 3 (fieldCases (now (c .before .before .before .before .before .before .before .args .bytes))))
-unfolding NoneHolds
-none-3 c = (not-11 (c .before .before .before .before .before), (not-12 (c .before .before), (not-13 c, tt)))
-
-none-4 : (c : tie.Else4) → NoneHolds (take 4 (fieldCases (now (c .before .before .before .before .before .before .before .before .before .args .bytes))))
-unfolding NoneHolds
-none-4 c = (not-11 (c .before .before .before .before .before .before .before), (not-12 (c .before .before .before .before), (not-13 (c .before .before), (not-14 c, tt))))
-
-none-5 : (c : tie.Else5) → NoneHolds (take 5 (fieldCases (now (c .before .before .before .before .before .before .before .before .before .before .before .args .bytes))))
-unfolding NoneHolds
-none-5 c = (not-11 (c .before .before .before .before .before .before .before .before .before), (not-12 (c .before .before .before .before .before .before), (not-13 (c .before .before .before .before), (not-14 (c .before .before), (not-15 c, tt)))))
-
-none-6 : (c : tie.Else6) → NoneHolds (fieldCases (now (c .before .before .before .before .before .before .before .before .before .before .before .before .before .args .bytes)))
-unfolding NoneHolds
-none-6 c = (not-11 (c .before .before .before .before .before .before .before .before .before .before .before), (not-12 (c .before .before .before .before .before .before .before .before), (not-13 (c .before .before .before .before .before .before), (not-14 (c .before .before .before .before), (not-15 (c .before .before), (not-16 c, tt))))))
-
--- the case after those
+-- none before a case holds, and the case does
 here : (b : List ℕ) (before : List Case) (n : ℕ) (x : Bool) (after : List Case) → NoneHolds before → x ≡ true → cases b ≡ before ++ (case (suc n) x ∷ after) → refusedWith (suc n) ≡ responseTo b
 here b before n x after none e is = sym (ap (λ (cs : List Case). respond cs (answer b)) is ∙ refused-here before n x after (answer b) none e)
 
 returns : tie.Need-returns
 unfolding NoneHolds
-returns c =
+returns c = 
     let b = now (c .before .before .args .bytes) in
     here b [] 10 (not (eqb (length b) 24)) (drop 1 (fieldCases b) ++ ladderCases (decoded b)) tt (rw (ne-eqb (length b) 24 (c .if1 .taken))) refl
 
@@ -80,52 +65,57 @@ decode-requires c κs = search needs
 code-unknown-requires : tie.Need-code-unknown-requires
 code-unknown-requires c κs = search needs
 
-returns-2 : tie.Need-returns-2
-returns-2 c =
-    let b = now (c .before .before .before .before .before .args .bytes) in
-    here b (take 1 (fieldCases b)) 11 (anyOutside (codes b)) (drop 2 (fieldCases b) ++ ladderCases (decoded b)) (none-1 (c .before .before .before)) (sym (c .before .code-unknown .ensures b (c .before .before .decode .ensures)) ∙ c .if2 .taken) refl
-
 out-of-range-requires : tie.Need-out-of-range-requires
 out-of-range-requires c κs = search needs
-
-returns-3 : tie.Need-returns-3
-returns-3 c =
-    let b = now (c .before .before .before .before .before .before .before .args .bytes) in
-    here b (take 2 (fieldCases b)) 12 (anyOutside (ranges b)) (drop 3 (fieldCases b) ++ ladderCases (decoded b)) (none-2 (c .before .before)) (sym (c .before .out-of-range .ensures b (c .before .before .before .before .decode .ensures)) ∙ c .if3 .taken) refl
 
 not-zero-requires : tie.Need-not-zero-requires
 not-zero-requires c κs = search needs
 
-returns-4 : tie.Need-returns-4
-returns-4 c =
-    let b = now (c .before .before .before .before .before .before .before .before .before .args .bytes) in
-    here b (take 3 (fieldCases b)) 13 (anyOutside (mustBeZero b)) (drop 4 (fieldCases b) ++ ladderCases (decoded b)) (none-3 (c .before .before)) (sym (c .before .not-zero .ensures b (c .before .before .before .before .before .before .decode .ensures)) ∙ c .if4 .taken) refl
-
-returns-5 : tie.Need-returns-5
-returns-5 c =
-    let b = now (c .before .before .before .before .before .before .before .before .before .before .before .args .bytes) in
-    let s = decoded b in
-    here b (take 4 (fieldCases b)) 14 (leb (s .temperature) (s .ambient)) (drop 5 (fieldCases b) ++ ladderCases (decoded b)) (none-4 (c .before .before)) (rw (← c .before .before .before .before .before .before .before .before .decode .ensures) (le-leb _ _ (c .if5 .taken))) refl
-
 aim-out-of-reach-requires : tie.Need-aim-out-of-reach-requires
 aim-out-of-reach-requires c κs = search needs
 
+returns-2 : tie.Need-returns-2
+unfolding NoneHolds
+returns-2 c = 
+    let a = c .before in
+    let b = sheet-bytes a in
+    here b (take 1 (fieldCases b)) 11 (anyOutside (codes b)) (drop 2 (fieldCases b) ++ ladderCases (decoded b)) (length-24 a, tt) (unknown a ∙ c .if2 .taken) refl
+
+returns-3 : tie.Need-returns-3
+unfolding NoneHolds
+returns-3 c = 
+    let a = c .before .before in
+    let b = sheet-bytes a in
+    here b (take 2 (fieldCases b)) 12 (anyOutside (ranges b)) (drop 3 (fieldCases b) ++ ladderCases (decoded b)) (length-24 a, (unknown a ∙ c .before .if2 .left, tt)) (outside a ∙ c .if3 .taken) refl
+
+returns-4 : tie.Need-returns-4
+unfolding NoneHolds
+returns-4 c = 
+    let a = c .before .before .before in
+    let b = sheet-bytes a in
+    here b (take 3 (fieldCases b)) 13 (anyOutside (mustBeZero b)) (drop 4 (fieldCases b) ++ ladderCases (decoded b)) (length-24 a, (unknown a ∙ c .before .before .if2 .left, (outside a ∙ c .before .if3 .left, tt))) (unused a ∙ c .if4 .taken) refl
+
+returns-5 : tie.Need-returns-5
+unfolding NoneHolds
+returns-5 c = 
+    let a = c .before .before .before .before in
+    let b = sheet-bytes a in
+    here b (take 4 (fieldCases b)) 14 (leb (decoded b .temperature) (decoded b .ambient)) (drop 5 (fieldCases b) ++ ladderCases (decoded b)) (length-24 a, (unknown a ∙ c .before .before .before .if2 .left, (outside a ∙ c .before .before .if3 .left, (unused a ∙ c .before .if4 .left, tt)))) (colder a ∙ c .if5 .taken) refl
+
 returns-6 : tie.Need-returns-6
-returns-6 c =
-    let b = now (c .before .before .before .before .before .before .before .before .before .before .before .before .before .args .bytes) in
-    let s = decoded b in
-    here b (take 5 (fieldCases b)) 15 (aimRefused s (goalOf s)) (drop 6 (fieldCases b) ++ ladderCases (decoded b)) (none-5 (c .before .before)) (rw (← c .before .before .before .before .before .before .before .before .before .before .decode .ensures) (sym (c .before .aim-out-of-reach .ensures) ∙ c .if6 .taken)) refl
+unfolding NoneHolds
+returns-6 c = 
+    let a = c .before .before .before .before .before in
+    let b = sheet-bytes a in
+    here b (take 5 (fieldCases b)) 15 (aimRefused (decoded b) (goalOf (decoded b))) (drop 6 (fieldCases b) ++ ladderCases (decoded b)) (length-24 a, (unknown a ∙ c .before .before .before .before .if2 .left, (outside a ∙ c .before .before .before .if3 .left, (unused a ∙ c .before .before .if4 .left, (colder a ∙ c .before .if5 .left, tt))))) (beyond a ∙ c .if6 .taken) refl
 
 search-ladder-requires : tie.Need-search-ladder-requires
-search-ladder-requires c κs =
-    let b = now (c .before .before .before .before .before .before .before .before .before .before .before .before .before .args .bytes) in
-    rw (c .before .before .before .before .before .before .before .before .before .before .decode .ensures) (admitted b (none-6 c))
+search-ladder-requires c κs = rw (c .before .before .before .before .before .before .before .before .before .before .decode .ensures) (admitted (sheet-bytes (c .before .before .before .before .before)) (passed c))
 
 returns-7 : tie.Need-returns-7
-returns-7 c =
-    let b = now (c .before .before .before .before .before .before .before .before .before .before .before .before .before .before .args .bytes) in
-    let is = c .before .before .before .before .before .before .before .before .before .before .before .decode .ensures in
-    c .search-ladder .ensures ∙ rw is (sym (later (fieldCases b) (ladderCases (decoded b)) (answer b) (none-6 (c .before))))
+returns-7 c = 
+    let b = sheet-bytes (c .before .before .before .before .before .before) in
+    c .search-ladder .ensures ∙ rw (c .before .before .before .before .before .before .before .before .before .before .before .decode .ensures) (sym (later (fieldCases b) (ladderCases (decoded b)) (answer b) (passed (c .before))))
 
 pub work-out-spec : {M : Type 1} → statement M
 work-out-spec =
@@ -134,13 +124,13 @@ work-out-spec =
     returns
     decode-requires
     code-unknown-requires
-    returns-2
     out-of-range-requires
-    returns-3
     not-zero-requires
+    aim-out-of-reach-requires
+    returns-2
+    returns-3
     returns-4
     returns-5
-    aim-out-of-reach-requires
     returns-6
     search-ladder-requires
     returns-7)
