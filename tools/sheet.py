@@ -97,8 +97,9 @@ def answer(sheet):
     return [0, 3 - n, k // 256, k % 256, loss, surface, bound // 256, bound % 256]
 
 
-def sheet_of(goal, service, *fields):
-    return bytes([goal, service]) + b"".join((x % 65_536).to_bytes(2, "big") for x in (0, *fields))
+def sheet_of(goal, service, *fields, line=0):
+    """The bytes of a sheet; the fields are those from D to aim."""
+    return bytes([goal, service]) + b"".join((x % 65_536).to_bytes(2, "big") for x in (line, *fields))
 
 
 if __name__ == "__main__":

@@ -1,6 +1,6 @@
 -- What a search of the ladder tells.
 -- Assumes nothing.
-use mathlib.Core.Path.{_≡_, refl, sym, ap, _∙_}
+use mathlib.Core.Path.{_≡_, refl}
 use mathlib.Core.Bool.{Bool, true, false, cond}
 use Prim.Native.Nat.{ℕ, _<_}
 use native.Mathlib.Omega.{arith}
@@ -11,15 +11,14 @@ use Rattle.quadrature.specs.Ladder.{rungs, thicknessAt}
 use Rattle.balance.specs.declared.choice.Choice.{Choice}
 use Rattle.balance.specs.declared.choice.Choice.the-variants.{Rung, AllInsufficient}
 use Rattle.balance.specs.declared.line.Line.{Line}
-use Rattle.balance.specs.declared.verdict.Verdict.{Verdict}
 use Rattle.balance.specs.Provided.{provided}
-use Rattle.balance.specs.Verdict.{judged, firstNotInsufficient}
+use Rattle.balance.specs.Verdict.{verdictOf, firstNotInsufficient}
 use Rattle.balance.specs.Choice.{searched}
 use Rattle.balance.proofs.Search.{first-within}
 
 module _ (l : Line) (q : Bounds) where
   abbrev first : ℕ
-  first = firstNotInsufficient (λ i. judged (provided l (thicknessAt i)) q)
+  first = firstNotInsufficient (verdictOf l q)
 
   -- all rungs miss, or r is the first that does not, and p what it provides
   abbrev pub Told : Choice → Type 0
@@ -31,4 +30,4 @@ module _ (l : Line) (q : Bounds) where
     where
       go : (b : Bool) → ltb first rungs ≡ b → Told (cond b (Rung first (provided l (thicknessAt first))) AllInsufficient)
       go true e = (refl, ltb-true first rungs e, refl)
-      go false e = omega (arith, ltb-false first rungs e, first-within (λ i. judged (provided l (thicknessAt i)) q))
+      go false e = omega (arith, ltb-false first rungs e, first-within (verdictOf l q))

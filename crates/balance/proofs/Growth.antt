@@ -20,7 +20,7 @@ use Rattle.balance.specs.declared.line.Shape.{Shape}
 use Rattle.balance.specs.declared.verdict.Verdict.the-variants.{Sufficient, Insufficient, Undecided}
 use Rattle.balance.specs.Line.{shapeOf}
 use Rattle.balance.specs.Provided.{insulation, fromFigures, insulationBounds, provided}
-use Rattle.balance.specs.Verdict.{judged}
+use Rattle.balance.specs.Verdict.{judged, verdictOf}
 use Rattle.balance.proofs.Enclosure.{insulation-mono, insulation-den}
 
 -- of the figures of either side
@@ -52,8 +52,7 @@ less-insufficient p p′ q lower upper = go (leb (q .upper) (p′ .lower)) (ltb 
     go false true e f is = simp (lt-leb (q .upper) (p .lower) (omega (arith, leb-false (q .upper) (p′ .lower) e)), lt-ltb (p .upper) (q .lower) (omega (arith, ltb-true (p′ .upper) (q .lower) f)))
     go false false e f is = cc
 
-pub insufficient-below :
-    (l : Line) (q : Bounds) {i j : ℕ} → i ≤ j → judged (provided l (thicknessAt j)) q ≡ Insufficient → judged (provided l (thicknessAt i)) q ≡ Insufficient
+pub insufficient-below : (l : Line) (q : Bounds) {i j : ℕ} → i ≤ j → verdictOf l q j ≡ Insufficient → verdictOf l q i ≡ Insufficient
 insufficient-below l q {i} {j} le =
     let more = provided-more l {j = thicknessAt i} {k = thicknessAt j} (omega arith) in
     less-insufficient (provided l (thicknessAt i)) (provided l (thicknessAt j)) q (more .0) (more .1)

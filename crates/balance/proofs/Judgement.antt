@@ -48,7 +48,7 @@ module _ (l : Line) (q : Requirement) (proper : Proper q) (m : ℕ) (hα : 1 ≤
       let more = provided-grows l m hα hD hm {j = thicknessAt i} {k = thicknessAt j} (omega arith) in
       never-both q _ (meets-more q _ _ (lower-provided-den l m hα hD hm (thicknessAt i)) more meets) misses
 
-  pub sound : Sound (verdictOf l q) (MeetsOn m l q) (MissesOn m l q)
+  pub sound : Sound (verdictOf l (enclosing q)) (MeetsOn m l q) (MissesOn m l q)
   sound =
       record {
         meets = λ r e. meets-more q _ _ (omega arith) (provided-below l m hα hD hm (thicknessAt r)) (upper-meets q proper (rw e at (verdict-told r)));
@@ -56,5 +56,5 @@ module _ (l : Line) (q : Requirement) (proper : Proper q) (m : ℕ) (hα : 1 ≤
         apart = λ r. meets-stays r r (le-refl r);
       }
     where
-      verdict-told : (r : ℕ) → Told (provided l (thicknessAt r)) (enclosing q) (verdictOf l q r)
+      verdict-told : (r : ℕ) → Told (provided l (thicknessAt r)) (enclosing q) (verdictOf l (enclosing q) r)
       verdict-told r = told (provided l (thicknessAt r)) (enclosing q)

@@ -8,10 +8,10 @@ use Rattle.balance.specs.declared.line.Line.{Line}
 use Rattle.balance.specs.declared.choice.Choice.{Choice}
 use Rattle.balance.specs.declared.choice.Choice.the-variants.{Rung, AllInsufficient}
 use Rattle.balance.specs.Provided.{provided}
-use Rattle.balance.specs.Verdict.{judged, firstNotInsufficient}
+use Rattle.balance.specs.Verdict.{verdictOf, firstNotInsufficient}
 
 -- "The first rung that doesn't miss", q being required of the line l, with what it provides
 abbrev pub searched : Line → Bounds → Choice
 searched l q =
-    let r = firstNotInsufficient (λ i. judged (provided l (thicknessAt i)) q) in
+    let r = firstNotInsufficient (verdictOf l q) in
     cond (ltb r rungs) (Rung r (provided l (thicknessAt r))) AllInsufficient

@@ -1,4 +1,4 @@
--- The ranges in which no divisor is 0 and every figure fits 64 bits: those of 01, "The sheet: 24 bytes", as far as they are needed for it.
+-- Ranges in which no divisor is 0 and every figure fits 64 bits. Those of 01, "The sheet: 24 bytes", lie within them.
 -- Assumes nothing.
 use Prim.Native.Nat.{_^_, _≤_}
 use Rattle.balance.specs.declared.line.Line.{Line}
@@ -20,7 +20,7 @@ pub record EconomyInRange (e : EconomyTerms) : Type 0 where
   pub share-from : 1 ≤ e .share
   pub share-to : e .share ≤ 10_000
 
--- a rise of the surface, and what a rung provides, which stands in its place in the surface bound
+-- a rise, up to 2⁴⁰, since the surface bound puts what a rung provides in its place
 abbrev pub GoalInRange : Goal → Type 0
 GoalInRange (Economy e) = EconomyInRange e
 GoalInRange (Loss aim) = 1 ≤ aim

@@ -1,6 +1,6 @@
 // Whether a thickness is enough.
 ghost use mathlib.Core.Path.{_≡_};
-ghost use Rattle.balance.specs.Verdict.{judged, notInsufficient};
+ghost use Rattle.balance.specs.Verdict.{judged, notInsufficient, isUndecided};
 use fractions::Bounds;
 
 pub enum Verdict {
@@ -10,12 +10,23 @@ pub enum Verdict {
 }
 
 impl Verdict {
-    // Whether a rung of this verdict ends the search.
+    // Does a rung with this verdict not miss?
     pub(crate) fn not_insufficient(self) -> bool
         ensures { λ r. ⌜ r ≡ notInsufficient self ⌝ }
     {
         match self {
             Verdict::Sufficient => true,
+            Verdict::Insufficient => false,
+            Verdict::Undecided => true,
+        }
+    }
+
+    // Is it open?
+    pub fn is_undecided(self) -> bool
+        ensures { λ r. ⌜ r ≡ isUndecided self ⌝ }
+    {
+        match self {
+            Verdict::Sufficient => false,
             Verdict::Insufficient => false,
             Verdict::Undecided => true,
         }

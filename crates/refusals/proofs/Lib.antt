@@ -1,3 +1,1 @@
-pub mod Numbers
-pub mod Cases
 pub mod Response

@@ -1,75 +1,84 @@
--- A call with a list of numbered cases answers as demand 1 asks.
+-- What a call with a list of cases responds.
 -- Assumes nothing.
-use mathlib.Core.Path.{_≡_, refl, sym, ap, _∙_}
-use mathlib.Core.Bool.{Bool, true, false, not, _&&_, and-eq-true-iff}
-use mathlib.Core.Logic.{_⊎_, inl, inr, ⊎-elim}
-use mathlib.Core.List.{List, [], _∷_, _++_}
-use Prim.Native.Nat.{ℕ, zero, suc, _<_}
-use native.Mathlib.Omega.{arith}
-use native.Mathlib.Nat.{pos-of-ne-zero}
+use mathlib.Core.Path.{_≡_, refl, _∙_, ap}
+use mathlib.Core.Bool.{Bool, true, false, not, _&&_, and-eq-true-iff, true≢false, false≢true}
+use mathlib.Core.Logic.{_⊎_, inl, inr}
+use mathlib.Core.List.{List, [], _∷_, _++_, append-nil}
+use Prim.Native.Nat.{ℕ}
 use lib.Dec.{eqb}
-use borrow.Author.Tests.{eqb-false, not-true}
-use Rattle.refusals.specs.Cases.{Case, case, firstHolding, NoneHolds, FirstHolds}
-use Rattle.refusals.specs.Response.{Response, refusedWith, complete, respond, FirstOrComplete}
-use Rattle.refusals.proofs.Cases.{absent, first-after}
+use borrow.Author.Tests.{eq-eqb}
+use Rattle.refusals.specs.Cases.{Case, case, NoneHolds, FirstHolds}
+use Rattle.refusals.specs.Response.{Response, refused, complete, respond, FirstOrComplete}
 
--- where no case has the number 0: none holds, or the number found is that of the first that does
-found : (cs : List Case) → absent 0 cs ≡ true → (NoneHolds cs × (firstHolding cs ≡ 0)) ⊎ (FirstHolds (firstHolding cs) cs × (0 < firstHolding cs))
-unfolding absent firstHolding NoneHolds FirstHolds
-found [] away = inl (tt, refl)
-found (c ∷ cs) away =
-    let parts = and-eq-true-iff (not (eqb (c .number) 0)) (absent 0 cs) .0 away in
-    go (c .holds) refl (pos-of-ne-zero (eqb-false _ _ (not-true _ (parts .0)))) (found cs (parts .1))
+-- Demand 1.
+pub first-or-complete : (cs : List Case) (bytes : List ℕ) → FirstOrComplete cs bytes (respond cs bytes)
+unfolding NoneHolds FirstHolds respond
+first-or-complete [] bytes = inr (tt, refl)
+first-or-complete (c ∷ cs) bytes = go (c .holds) refl (first-or-complete cs bytes)
   where
     go :
-        (b : Bool) → c .holds ≡ b → 0 < c .number → (NoneHolds cs × (firstHolding cs ≡ 0)) ⊎ (FirstHolds (firstHolding cs) cs × (0 < firstHolding cs)) →
-        let n : ℕ = elim b as (λ _. ℕ) [ true ↦ c .number | false ↦ firstHolding cs ] in
-        (((c .holds ≡ false) × NoneHolds cs) × (n ≡ 0)) ⊎ ((((c .holds ≡ true) × (c .number ≡ n)) ⊎ ((c .holds ≡ false) × FirstHolds n cs)) × (0 < n))
-    go true h pos rest = inr (inl (h, refl), pos)
-    go false h pos (inl none) = inl ((h, none .0), none .1)
-    go false h pos (inr some) = inr (inr (h, some .0), some .1)
+        (b : Bool) → c .holds ≡ b → FirstOrComplete cs bytes (respond cs bytes) →
+        FirstOrComplete (c ∷ cs) bytes (elim b as (λ _. Response) [ true ↦ refused (c .number) | false ↦ respond cs bytes ])
+    go true h later = inl (c .number, inl (h, refl), refl)
+    go false h (inl first) = inl (first .0, inr (h, first .1), first .2)
+    go false h (inr none) = inr ((h, none .0), none .1)
 
--- what `respond` makes of the number found
-module _ (cs : List Case) (bytes : List ℕ) where
-  pub respond-number : respond cs bytes .number ≡ firstHolding cs
-  unfolding respond
-  respond-number = go (firstHolding cs)
-    where
-      go : (n : ℕ) → (elim n as (λ _. Response) [ zero ↦ complete bytes | suc m ↦ refusedWith (suc m) ]) .number ≡ n
-      go zero = refl
-      go (suc m) = refl
-
-  pub respond-complete : firstHolding cs ≡ 0 → respond cs bytes ≡ complete bytes
-  unfolding respond
-  respond-complete e = rw (respond, e)
-
-  pub respond-refused : (n : ℕ) → firstHolding cs ≡ suc n → respond cs bytes ≡ refusedWith (suc n)
-  unfolding respond
-  respond-refused n e = rw (respond, e)
-
-  -- a complete response is those bytes
-  pub completed : (a : List ℕ) → respond cs bytes ≡ complete a → (firstHolding cs ≡ 0) × (bytes ≡ a)
-  completed a e =
-      let none : firstHolding cs ≡ 0 = sym respond-number ∙ ap (λ (r : Response). r .number) e in
-      (none, ap (λ (r : Response). r .bytes) (sym (respond-complete none) ∙ e))
-
-pub first-or-complete : (cs : List Case) (bytes : List ℕ) → absent 0 cs ≡ true → FirstOrComplete cs bytes (respond cs bytes)
-first-or-complete cs bytes away =
-    ⊎-elim (λ none. inl (none .0, respond-complete cs bytes (none .1))) (λ some. inr (firstHolding cs, some .0, numbered (firstHolding cs) refl (some .1))) (found cs away)
-  where
-    numbered : (n : ℕ) → firstHolding cs ≡ n → 0 < n → respond cs bytes ≡ refusedWith n
-    numbered zero e pos = absurd (omega arith)
-    numbered (suc m) e pos = respond-refused cs bytes m e
-
--- none in front holds, and this case does
-pub refused-here :
-    (before : List Case) (n : ℕ) (x : Bool) (after : List Case) (bytes : List ℕ) → NoneHolds before → x ≡ true →
-    respond (before ++ (case (suc n) x ∷ after)) bytes ≡ refusedWith (suc n)
-unfolding firstHolding
-refused-here before n x after bytes none e =
-    respond-refused (before ++ (case (suc n) x ∷ after)) bytes n (first-after before (case (suc n) x ∷ after) none ∙ rw e)
-
--- none in front holds, so the cases behind decide
+-- None in front holds: the cases behind decide; and the next case holds.
 pub later : (before after : List Case) (bytes : List ℕ) → NoneHolds before → respond (before ++ after) bytes ≡ respond after bytes
+unfolding NoneHolds respond
+later [] after bytes none = refl
+later (c ∷ before) after bytes none = rw (none .0) (later before after bytes (none .1))
+
+pub here : (before : List Case) (n : ℕ) (x : Bool) (after : List Case) (bytes : List ℕ) → NoneHolds before → x ≡ true → respond (before ++ (case n x ∷ after)) bytes ≡ refused n
 unfolding respond
-later before after bytes none = rw (respond, first-after before after none)
+here before n x after bytes none e = later before (case n x ∷ after) bytes none ∙ rw e
+
+-- no case of the list has the number n
+unfoldable pub absent : ℕ → List Case → Bool
+absent n [] = true
+absent n (c ∷ cs) = not (eqb (c .number) n) && absent n cs
+
+-- the number, or the bytes, of a response
+abbrev number : Response → ℕ
+number (refused n) = n
+number (complete bytes) = 0
+
+abbrev content : Response → List ℕ
+content (refused n) = []
+content (complete bytes) = bytes
+
+abbrev isRefused : Response → Bool
+isRefused (refused n) = true
+isRefused (complete bytes) = false
+
+-- A complete response: no case holds.
+pub completed : (cs : List Case) (bytes a : List ℕ) → respond cs bytes ≡ complete a → NoneHolds cs × (bytes ≡ a)
+unfolding NoneHolds respond
+completed [] bytes a = λ e. (tt, ap content e)
+completed (c ∷ cs) bytes a = go (c .holds) refl (completed cs bytes a)
+  where
+    go :
+        (b : Bool) → c .holds ≡ b → (respond cs bytes ≡ complete a → NoneHolds cs × (bytes ≡ a)) →
+        (elim b as (λ _. Response) [ true ↦ refused (c .number) | false ↦ respond cs bytes ]) ≡ complete a → NoneHolds (c ∷ cs) × (bytes ≡ a)
+    go true h rest e = absurd (true≢false (ap isRefused e))
+    go false h rest e = ((h, rest e .0), rest e .1)
+
+-- A number that no case in front has: none in front holds.
+pub behind : (n : ℕ) (cs ds : List Case) (bytes : List ℕ) → absent n cs ≡ true → respond (cs ++ ds) bytes ≡ refused n → NoneHolds cs × (respond ds bytes ≡ refused n)
+unfolding NoneHolds respond absent
+behind n [] ds bytes away = λ e. (tt, e)
+behind n (c ∷ cs) ds bytes away = go (c .holds) refl (behind n cs ds bytes (and-eq-true-iff (not (eqb (c .number) n)) (absent n cs) .0 away .1))
+  where
+    go :
+        (b : Bool) → c .holds ≡ b → (respond (cs ++ ds) bytes ≡ refused n → NoneHolds cs × (respond ds bytes ≡ refused n)) →
+        (elim b as (λ _. Response) [ true ↦ refused (c .number) | false ↦ respond (cs ++ ds) bytes ]) ≡ refused n → NoneHolds (c ∷ cs) × (respond ds bytes ≡ refused n)
+    go true h rest e = let z : false ≡ true = rw (eq-eqb (c .number) n (ap number e)) at away in absurd (false≢true z)
+    go false h rest e = ((h, rest e .0), rest e .1)
+
+-- A number that no case behind has: the case in front with that number holds.
+pub front : (n : ℕ) (b : Bool) (cs : List Case) (bytes : List ℕ) → absent n cs ≡ true → respond (case n b ∷ cs) bytes ≡ refused n → b ≡ true
+unfolding respond
+front n true cs bytes away e = refl
+front n false cs bytes away e =
+    let end : complete bytes ≡ refused n = behind n cs [] bytes away (rw append-nil e) .1 in
+    absurd (false≢true (ap isRefused end))

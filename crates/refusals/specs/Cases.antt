@@ -14,11 +14,6 @@ pub record Case : Type 0 where
 abbrev pub case : ℕ → Bool → Case
 case n b = record { number = n; holds = b }
 
--- the number of the first case that holds, 0 where none does
-unfoldable pub firstHolding : List Case → ℕ
-firstHolding [] = 0
-firstHolding (c ∷ cs) = elim (c .holds) [ true ↦ c .number | false ↦ firstHolding cs ]
-
 -- no case of a list holds
 unfoldable pub NoneHolds : List Case → Type 0
 NoneHolds [] = Unit {0}

@@ -10,8 +10,9 @@ use lib.Dec.{eqb, ltb}
 use borrow.Author.Tests.{eqb-false, leb-false, ltb-true, not-false}
 use Rattle.balance.specs.declared.goal.Goal.the-variants.{Economy, Loss, Surface}
 use Rattle.balance.specs.Ranges.{GoalInRange}
+use Rattle.sheet.specs.declared.fields.Sheet.{Sheet}
 use Rattle.sheet.specs.Sheet.{decoded, difference, surfaceAim, goalOf}
-use Rattle.sheet.specs.Ranges.{anyOutside, economyFields, isEconomy}
+use Rattle.sheet.specs.Ranges.{anyOutside, economyFields}
 use Rattle.refusals.specs.Cases.{NoneHolds}
 use Rattle.sheet.specs.Refusals.{aimRefused, fieldCases}
 use Rattle.sheet.specs.Admitted.{Admitted}
@@ -19,11 +20,10 @@ use Rattle.sheet.proofs.Inside.{inside}
 
 -- each goal's own range, from the fields that only it uses, and from case 16
 goal-in-range :
-    (b : List ℕ) → let s = decoded b in (economy loss : Bool) →
+    (s : Sheet) (economy loss : Bool) →
     let goal = cond economy (Economy (s .economy)) (cond loss (Loss (s .aim)) (Surface (surfaceAim s - s .ambient))) in
-    anyOutside (cond (isEconomy goal) (economyFields b) []) ≡ false → difference s ≤ 7_000 → aimRefused s goal ≡ false → GoalInRange goal
-unfolding decoded
-goal-in-range b true loss fields near aim =
+    anyOutside (cond economy (economyFields s) []) ≡ false → difference s ≤ 7_000 → aimRefused s goal ≡ false → GoalInRange goal
+goal-in-range s true loss fields near aim =
     let heat = inside _ _ fields in
     let hours = inside _ _ (heat .rest) in
     let insulation = inside _ _ (hours .rest) in
@@ -36,9 +36,8 @@ goal-in-range b true loss fields near aim =
       share-from = share .least;
       share-to = share .most;
     }
-goal-in-range b false true fields near aim = pos-of-ne-zero (eqb-false _ _ aim)
-goal-in-range b false false fields near aim =
-    let s = decoded b in
+goal-in-range s false true fields near aim = pos-of-ne-zero (eqb-false _ _ aim)
+goal-in-range s false false fields near aim =
     let above = ltb (s .ambient) (surfaceAim s) in
     let below = ltb (surfaceAim s) (s .temperature) in
     let both = and-eq-true-iff above below .0 (not-false (above && below) aim) in
@@ -65,5 +64,5 @@ admitted bytes f =
       warmer = warmer;
       temperature-to = temperature .most;
       difference-to = near;
-      goal = goal-in-range bytes (eqb (s .goal) 1) (eqb (s .goal) 2) (coefficient .rest) near (f .1 .1 .1 .1 .1 .0);
+      goal = goal-in-range s (eqb (s .goal) 1) (eqb (s .goal) 2) (coefficient .rest) near (f .1 .1 .1 .1 .1 .0);
     }

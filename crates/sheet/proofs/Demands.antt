@@ -11,7 +11,7 @@ use borrow.Author.Tests.{eqb-true, eqb-false, eq-eqb, ne-eqb}
 use Rattle.quadrature.specs.Ladder.{rungs, thicknessAt}
 use Rattle.balance.specs.declared.verdict.Verdict.{Verdict}
 use Rattle.balance.specs.declared.verdict.Verdict.the-variants.{Sufficient, Insufficient, Undecided}
-use Rattle.balance.specs.Verdict.{notInsufficient}
+use Rattle.balance.specs.Verdict.{notInsufficient, isUndecided}
 use Rattle.balance.proofs.Requirements.{in-range-proper}
 use Rattle.balance.proofs.Search.{first-within, misses-before, first-not-insufficient, first-is, first-none, least-anywhere}
 use Rattle.balance.proofs.Judgement.{MeetsOn, MissesOn, meets-stays, sound}
@@ -21,14 +21,14 @@ use Rattle.sheet.specs.Bytes.{bigEndian, bytesOf, offsetBinary}
 use Rattle.sheet.specs.Sheet.{decoded, difference, goalOf}
 use Rattle.sheet.specs.Search.{requirementOf, verdicts, chosen}
 use Rattle.sheet.specs.Answer.{encoded, lossCheck, surfaceCheck, surfaceBound, answerOf, answer}
-use Rattle.sheet.specs.Refusals.{fieldCases, ladderCases, isUndecided, cases, refusal, responseTo}
-use Rattle.refusals.specs.Cases.{case, firstHolding, NoneHolds}
-use Rattle.refusals.specs.Response.{Response, refusedWith}
+use Rattle.sheet.specs.Refusals.{fieldCases, ladderCases, cases, responseTo}
+use Rattle.refusals.specs.Cases.{case, NoneHolds}
+use Rattle.refusals.specs.Response.{refused, complete}
 use Rattle.sheet.specs.Demands.{Demand1, InsufficientBelow, AnswerTo, FirstUndecided, Demand2, Demand3}
-use Rattle.refusals.proofs.Cases.{absent, first-later, first-here, first-after}
-use Rattle.refusals.proofs.Response.{respond-number, respond-refused, completed, first-or-complete}
+use Rattle.refusals.proofs.Response.{first-or-complete, later, absent, completed, behind, front}
 use Rattle.sheet.specs.Admitted.{Admitted}
 use Rattle.sheet.proofs.Admitted.{admitted}
+use Rattle.sheet.proofs.Ladder.{all-insufficient, first-undecided}
 
 -- what holds of an answered sheet
 pub record Answered (bytes : List ℕ) : Type 0 where
@@ -41,16 +41,18 @@ sufficient Sufficient t u = refl
 sufficient Insufficient t u = cc
 sufficient Undecided t u = cc
 
-pub answered : (bytes : List ℕ) → refusal bytes ≡ 0 → Answered bytes
-unfolding absent NoneHolds
-answered bytes h =
-    let s = decoded bytes in
+pub answered : (sheet bytes : List ℕ) → responseTo sheet ≡ complete bytes → Answered sheet × (answer sheet ≡ bytes)
+unfolding NoneHolds
+answered sheet bytes h =
+    let s = decoded sheet in
     let v = verdicts s in
-    let early = first-later 0 (fieldCases bytes) (ladderCases s) refl h in
-    let late = first-later 0 (ladderCases s) [] refl (early .1) .0 in
-    let not-all : ¬ (chosen s ≡ rungs) = eqb-false _ _ (late .0) in
+    let got = completed (cases sheet) (answer sheet) bytes h in
+    let fields = got .0 in
+    let ladder = fields .1 .1 .1 .1 .1 .1 in
+    let not-all : ¬ (chosen s ≡ rungs) = eqb-false _ _ (ladder .0) in
     let lt : chosen s < rungs = omega (arith, first-within v) in
-    record { admitted = admitted bytes (early .0); found = lt; enough = sufficient (v (chosen s)) (first-not-insufficient v lt) (late .1 .0) }
+    let passed : NoneHolds (fieldCases sheet) = (fields .0, (fields .1 .0, (fields .1 .1 .0, (fields .1 .1 .1 .0, (fields .1 .1 .1 .1 .0, (fields .1 .1 .1 .1 .1 .0, tt)))))) in
+    (record { admitted = admitted sheet passed; found = lt; enough = sufficient (v (chosen s)) (first-not-insufficient v lt) (ladder .1 .0) }, got .1)
 
 -- bytes 2–3 of the answer
 two-bytes : (x : ℕ) → x < 65_536 → 256 * (x / 256 % 256) + x % 256 ≡ x
@@ -81,7 +83,7 @@ answer-to bytes known =
     record {
       rung = chosen s;
       on-ladder = known .found;
-      meets = known .enough;
+      sufficient = known .enough;
       first = misses-before (verdicts s);
       size = refl;
       start = refl;
@@ -93,15 +95,14 @@ answer-to bytes known =
     }
 
 pub demand-1 : Demand1
-unfolding absent
-demand-1 sheet = first-or-complete (cases sheet) (answer sheet) refl
+demand-1 sheet = first-or-complete (cases sheet) (answer sheet)
 
 pub demand-3 : Demand3
 demand-3 sheet bytes h m hm r lt =
     let s = decoded sheet in
     let q = requirementOf s (goalOf s) in
-    let got = completed (cases sheet) (answer sheet) bytes h in
-    let known = answered sheet (got .0) in
+    let got = answered sheet bytes h in
+    let known = got .0 in
     let in-range = known .admitted in
     let proper = in-range-proper (s .line) (difference s) (goalOf s) (in-range .line) (in-range .goal) in
     let α : 1 ≤ s .line .coefficient = omega arith in
@@ -122,39 +123,34 @@ module _ (sheet : List ℕ) where
   abbrev c : ℕ
   c = chosen (decoded sheet)
 
-  only-17 : refusal sheet ≡ 17 → NoneHolds (fieldCases sheet) × InsufficientBelow v rungs
+  only-17 : responseTo sheet ≡ refused 17 → NoneHolds (fieldCases sheet) × InsufficientBelow v rungs
   unfolding absent
   only-17 h =
-      let got = first-later 17 (fieldCases sheet) (ladderCases (decoded sheet)) refl h in
-      let all : c ≡ rungs = eqb-true _ _ (first-here 17 (eqb c rungs) (case 18 (isUndecided (v c)) ∷ []) (omega arith) refl (got .1)) in
+      let got = behind 17 (fieldCases sheet) (ladderCases (decoded sheet)) (answer sheet) refl h in
+      let all : c ≡ rungs = eqb-true _ _ (front 17 (eqb c rungs) (case 18 (isUndecided (v c)) ∷ []) (answer sheet) refl (got .1)) in
       (got .0, λ r lt. misses-before v r (omega arith))
 
-  when-17 : NoneHolds (fieldCases sheet) × InsufficientBelow v rungs → refusal sheet ≡ 17
-  unfolding firstHolding
-  when-17 h = first-after (fieldCases sheet) (ladderCases (decoded sheet)) (h .0) ∙ rw (eq-eqb c rungs (first-none v (h .1)))
+  when-17 : NoneHolds (fieldCases sheet) × InsufficientBelow v rungs → responseTo sheet ≡ refused 17
+  when-17 h = later (fieldCases sheet) (ladderCases (decoded sheet)) (answer sheet) (h .0) ∙ all-insufficient (decoded sheet) (answer sheet) (first-none v (h .1))
 
-  only-18 : refusal sheet ≡ 18 → NoneHolds (fieldCases sheet) × FirstUndecided v
+  only-18 : responseTo sheet ≡ refused 18 → NoneHolds (fieldCases sheet) × FirstUndecided v
   unfolding absent NoneHolds
   only-18 h =
-      let got = first-later 18 (fieldCases sheet) (ladderCases (decoded sheet)) refl h in
-      let last = first-later 18 (case 17 (eqb c rungs) ∷ []) (case 18 (isUndecided (v c)) ∷ []) refl (got .1) in
-      let some : ¬ (c ≡ rungs) = eqb-false _ _ (last .0 .0) in
-      (got .0, (c, omega (arith, first-within v), undecided (v c) (first-here 18 (isUndecided (v c)) [] (omega arith) refl (last .1)), misses-before v))
+      let got = behind 18 (fieldCases sheet) (ladderCases (decoded sheet)) (answer sheet) refl h in
+      let end = behind 18 (case 17 (eqb c rungs) ∷ []) (case 18 (isUndecided (v c)) ∷ []) (answer sheet) refl (got .1) in
+      let some : ¬ (c ≡ rungs) = eqb-false _ _ (end .0 .0) in
+      (got .0, (c, omega (arith, first-within v), undecided (v c) (front 18 (isUndecided (v c)) [] (answer sheet) refl (end .1)), misses-before v))
 
-  when-18 : NoneHolds (fieldCases sheet) × FirstUndecided v → refusal sheet ≡ 18
-  unfolding firstHolding
+  when-18 : NoneHolds (fieldCases sheet) × FirstUndecided v → responseTo sheet ≡ refused 18
   when-18 h =
       let r = h .1 .0 in
       let is : c ≡ r = first-is v r (h .1 .1) (ap notInsufficient (h .1 .2)) (h .1 .3) in
-      first-after (fieldCases sheet) (ladderCases (decoded sheet)) (h .0) ∙ rw (is, ne-eqb r rungs (λ e. omega (arith, h .1 .1)), h .1 .2)
+      later (fieldCases sheet) (ladderCases (decoded sheet)) (answer sheet) (h .0) ∙ first-undecided (decoded sheet) (answer sheet) (rw is (h .1 .1)) (rw is (ap isUndecided (h .1 .2)))
 
-pub demand-2 : (sheet : List ℕ) → Demand2 sheet
+pub demand-2 : Demand2
 demand-2 sheet =
     record {
-      answered = λ bytes h. (let got = completed (cases sheet) (answer sheet) bytes h in rw (← got .1) (answer-to sheet (answered sheet (got .0))));
-      seventeen = (λ e. only-17 sheet (numbered e), λ h. respond-refused (cases sheet) (answer sheet) 16 (when-17 sheet h));
-      eighteen = (λ e. only-18 sheet (numbered e), λ h. respond-refused (cases sheet) (answer sheet) 17 (when-18 sheet h));
+      answered = λ bytes h. (let got = answered sheet bytes h in rw (← got .1) (answer-to sheet (got .0)));
+      seventeen = (only-17 sheet, when-17 sheet);
+      eighteen = (only-18 sheet, when-18 sheet);
     }
-  where
-    numbered : {n : ℕ} → responseTo sheet ≡ refusedWith n → refusal sheet ≡ n
-    numbered e = sym (respond-number (cases sheet) (answer sheet)) ∙ ap (λ (r : Response). r .number) e

@@ -20,9 +20,9 @@ use Rattle.sheet.specs.Bytes.{bigEndian, bytesOf}
 use Rattle.sheet.specs.Sheet.{decoded}
 use Rattle.sheet.specs.Ranges.{anyOutside}
 use Rattle.sheet.specs.Limits.{highestNotAbove, lossLimit}
-use Rattle.sheet.specs.Answer.{encoded, lossCheck, surfaceCheck, surfaceBound, answerOf, answer}
-use Rattle.refusals.specs.Cases.{firstHolding}
-use Rattle.sheet.specs.Refusals.{refusal}
+use Rattle.sheet.specs.Answer.{encoded, lossCheck, surfaceCheck, surfaceBound, answerOf}
+use Rattle.refusals.specs.Response.{complete, respond}
+use Rattle.sheet.specs.Refusals.{responseTo}
 use Rattle.sheet.specs.Worked.{Gives}
 
 -- "Economy with L 333, α 2,048, f 7,500, τ 2,880, P 1,600, S 2,296, t 207, ta 70"
@@ -36,7 +36,7 @@ sheetOf goal service D t ta L α aim =
     goal ∷ service ∷ (bytesOf 2 0 ++ bytesOf 2 D ++ bytesOf 2 t ++ bytesOf 2 ta ++ bytesOf 2 L ++ bytesOf 2 α ++ bytesOf 8 0 ++ bytesOf 2 aim)
 
 abbrev Answers : List ℕ → List ℕ → Type 0
-Answers sheet bytes = (refusal sheet ≡ 0) × (answer sheet ≡ bytes)
+Answers sheet bytes = responseTo sheet ≡ complete bytes
 
 pub record Examples : Type 0 where
   pub economy-270 : Gives (economySheet 270) 20
@@ -63,14 +63,14 @@ high =
     (λ x lt. lt-of-le-of-lt (square-le {x = x} {y = 62_154_864} (radicand .den) (omega arith)) (omega arith)))
 
 pub examples : Examples
-unfolding summed lowerStep upperStep least insulation film insulationBounds filmBounds provided requirement enclosing firstNotInsufficient bigEndian bytesOf decoded highestNotAbove lossLimit lossCheck surfaceCheck surfaceBound encoded answerOf anyOutside firstHolding
+unfolding summed lowerStep upperStep least insulation film insulationBounds filmBounds provided requirement enclosing firstNotInsufficient bigEndian bytesOf decoded highestNotAbove lossLimit lossCheck surfaceCheck surfaceBound encoded answerOf anyOutside respond
 examples =
     record {
       economy-270 = (rw (low, high), rw (low, high));
       economy-320 = (rw (low, high), rw (low, high));
-      loss = (refl, refl);
-      surface = (refl, refl);
-      bare = (refl, refl);
-      loss-close = (refl, refl);
-      surface-close = (refl, refl);
+      loss = refl;
+      surface = refl;
+      bare = refl;
+      loss-close = refl;
+      surface-close = refl;
     }

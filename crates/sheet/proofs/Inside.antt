@@ -4,12 +4,12 @@ use mathlib.Core.Path.{_≡_, refl}
 use mathlib.Core.Bool.{Bool, true, false, _||_, _&&_, cond, true≢false}
 use mathlib.Core.List.{List, [], _∷_}
 use Prim.Native.Nat.{_-_, _≤_}
-use lib.Dec.{ltb, eqb}
-use borrow.Author.Tests.{ltb-false, eq-eqb, ne-eqb}
-use Rattle.balance.specs.declared.goal.Goal.the-variants.{Economy, Loss, Surface}
+use lib.Dec.{ltb}
+use borrow.Author.Tests.{ltb-false, ne-eqb}
+use Rattle.balance.specs.declared.goal.Goal.the-variants.{Surface}
 use Rattle.sheet.specs.declared.fields.Sheet.{Sheet}
 use Rattle.sheet.specs.Sheet.{surfaceAim, goalOf}
-use Rattle.sheet.specs.Ranges.{Field, outside, anyOutside, isEconomy}
+use Rattle.sheet.specs.Ranges.{Field, outside, anyOutside}
 
 -- A list of fields that are all inside their ranges, field by field.
 pub record Inside (f : Field) (fs : List Field) : Type 0 where
@@ -28,26 +28,11 @@ inside f fs e =
     let ends = or-false-both (ltb (f .value) (f .least)) (ltb (f .most) (f .value)) (parts .0) in
     record { least = ltb-false _ _ (ends .0); most = ltb-false _ _ (ends .1); rest = parts .1 }
 
--- whether a goal is economy
-pub economy-goal : (s : Sheet) → s .goal ≡ 1 → isEconomy (goalOf s) ≡ true
-economy-goal s e = rw (eq-eqb (s .goal) 1 e)
-
-pub other-goal : (s : Sheet) → ¬ (s .goal ≡ 1) → isEconomy (goalOf s) ≡ false
-other-goal s not-one = rw (ne-eqb (s .goal) 1 not-one) (go (eqb (s .goal) 2))
-  where
-    go : (loss : Bool) → isEconomy (cond loss (Loss (s .aim)) (Surface (surfaceAim s - s .ambient))) ≡ false
-    go true = refl
-    go false = refl
-
 -- the fields that only goal 1 uses
-pub if-economy : (s : Sheet) (fs : List Field) → eqb (s .goal) 1 && anyOutside fs ≡ anyOutside (cond (isEconomy (goalOf s)) fs [])
+pub if-goal : (b : Bool) (fs : List Field) → b && anyOutside fs ≡ anyOutside (cond b fs [])
 unfolding anyOutside
-if-economy s fs = go (eqb (s .goal) 1) (eqb (s .goal) 2)
-  where
-    go : (economy loss : Bool) → economy && anyOutside fs ≡ anyOutside (cond (isEconomy (cond economy (Economy (s .economy)) (cond loss (Loss (s .aim)) (Surface (surfaceAim s - s .ambient))))) fs [])
-    go true loss = refl
-    go false true = refl
-    go false false = refl
+if-goal true fs = refl
+if-goal false fs = refl
 
 -- a goal that is neither economy nor loss
 pub surface-goal : (s : Sheet) → ¬ (s .goal ≡ 1) → ¬ (s .goal ≡ 2) → goalOf s ≡ Surface (surfaceAim s - s .ambient)

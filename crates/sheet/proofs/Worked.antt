@@ -1,8 +1,8 @@
 -- The sheets worked by hand, by computation.
 -- Assumes nothing.
-use mathlib.Core.Path.{_≡_, refl, _∙_}
+use mathlib.Core.Path.{_≡_, refl}
 use mathlib.Core.Bool.{true, false, and-false}
-use mathlib.Core.List.{List, _∷_}
+use mathlib.Core.List.{List}
 use Prim.Native.Nat.{ℕ}
 use native.Mathlib.Omega.{arith}
 use lib.Dec.{ltb}
@@ -18,12 +18,13 @@ use Rattle.sheet.specs.declared.fields.Sheet.{Sheet}
 use Rattle.sheet.specs.Bytes.{bigEndian, bytesOf}
 use Rattle.sheet.specs.Sheet.{decoded, surfaceAim, goalOf}
 use Rattle.sheet.specs.Limits.{highestNotAbove, lossLimit}
-use Rattle.sheet.specs.Answer.{encoded, lossCheck, surfaceCheck, surfaceBound, answerOf}
-use Rattle.sheet.specs.Refusals.{aimRefused, fieldCases, ladderCases, refusal}
+use Rattle.sheet.specs.Answer.{encoded, lossCheck, surfaceCheck, surfaceBound, answerOf, answer}
+use Rattle.sheet.specs.Refusals.{aimRefused, fieldCases, ladderCases, responseTo}
 use Rattle.sheet.specs.Ranges.{anyOutside}
-use Rattle.refusals.specs.Cases.{case, firstHolding, NoneHolds}
+use Rattle.refusals.specs.Cases.{NoneHolds}
+use Rattle.refusals.specs.Response.{refused, respond}
 use Rattle.sheet.specs.Worked.{Worked}
-use Rattle.refusals.proofs.Cases.{first-after}
+use Rattle.refusals.proofs.Response.{here}
 
 -- goal 3 with the aim at t
 aim-refused : (s : Sheet) → s .goal ≡ 3 → surfaceAim s ≡ s .temperature → aimRefused s (goalOf s) ≡ true
@@ -31,14 +32,13 @@ aim-refused s goal aim =
     let below : ltb (surfaceAim s) (s .temperature) ≡ false = le-ltb (surfaceAim s) (s .temperature) (omega arith) in
     rw (goal, below, and-false)
 
-aim-at-t : (sheet : List ℕ) → let s = decoded sheet in s .goal ≡ 3 → surfaceAim s ≡ s .temperature → NoneHolds (take 5 (fieldCases sheet)) → refusal sheet ≡ 16
-unfolding firstHolding
+aim-at-t : (sheet : List ℕ) → let s = decoded sheet in s .goal ≡ 3 → surfaceAim s ≡ s .temperature → NoneHolds (take 5 (fieldCases sheet)) → responseTo sheet ≡ refused 16
 aim-at-t sheet goal aim earlier =
     let s = decoded sheet in
-    first-after (take 5 (fieldCases sheet)) (case 16 (aimRefused s (goalOf s)) ∷ ladderCases s) earlier ∙ rw (aim-refused s goal aim)
+    here (take 5 (fieldCases sheet)) 16 (aimRefused s (goalOf s)) (ladderCases s) (answer sheet) earlier (aim-refused s goal aim)
 
 pub worked : Worked
-unfolding lowerStep upperStep least insulation film insulationBounds filmBounds provided requirement enclosing firstNotInsufficient bigEndian bytesOf decoded highestNotAbove lossLimit lossCheck surfaceCheck surfaceBound encoded answerOf anyOutside firstHolding
+unfolding lowerStep upperStep least insulation film insulationBounds filmBounds provided requirement enclosing firstNotInsufficient bigEndian bytesOf decoded highestNotAbove lossLimit lossCheck surfaceCheck surfaceBound encoded answerOf anyOutside respond
 worked =
     record {
       p1 = refl;

@@ -15,13 +15,14 @@ use Rattle.balance.specs.declared.verdict.Verdict.{Verdict}
 use Rattle.balance.specs.declared.verdict.Verdict.the-variants.{Sufficient, Insufficient, Undecided}
 use Rattle.balance.specs.Line.{shapeOf}
 use Rattle.balance.specs.Provided.{film, provided}
+use Rattle.balance.specs.Verdict.{judged}
 use Rattle.sheet.specs.declared.fields.Sheet.{Sheet}
 use Rattle.sheet.specs.declared.encoding.Answer.{Answer}
 use Rattle.sheet.specs.declared.encoding.LossCheck.{LossCheck}
 use Rattle.sheet.specs.declared.encoding.LossCheck.the-variants.{Judged, NonePrinted}
 use Rattle.sheet.specs.Bytes.{bytesOf, offsetBinary}
 use Rattle.sheet.specs.Sheet.{decoded, difference}
-use Rattle.sheet.specs.Search.{verdictOn, chosen}
+use Rattle.sheet.specs.Search.{requiredOf, chosen}
 use Rattle.sheet.specs.Limits.{lossLimit, surfaceLimit}
 
 -- "Byte 1: 1 cylinder, 2 flat."
@@ -47,17 +48,17 @@ encoded a =
     0 ∷ shapeCode (a .shape) ∷
     (bytesOf 2 (a .thickness .0) ++ (lossCode (a .loss) ∷ checkCode (a .surface) ∷ bytesOf 2 (offsetBinary (a .bound))))
 
--- "The loss check reads meets, misses or open of the chosen rung against the loss need at the limit below"
+-- of a rung that provides p: "The loss check reads meets, misses or open of the chosen rung against the loss need at the limit below"
 unfoldable pub lossCheck : Sheet → Bounds → LossCheck
 lossCheck s p =
     let limit = lossLimit (s .service) (s .temperature) in
-    cond (eqb limit 0) NonePrinted (Judged (verdictOn s p (Loss limit)))
+    cond (eqb limit 0) NonePrinted (Judged (judged p (requiredOf s (Loss limit))))
 
 -- "the surface check does so with the limit in place of aim. A t at or below the surface limit is within."
 unfoldable pub surfaceCheck : Sheet → Bounds → Verdict
 surfaceCheck s p =
     let limit = surfaceLimit (s .ambient) in
-    cond (leb (s .temperature) limit) Sufficient (verdictOn s p (Surface (limit - s .ambient)))
+    cond (leb (s .temperature) limit) Sufficient (judged p (requiredOf s (Surface (limit - s .ambient))))
 
 -- "Surface bound: ta plus 2L × 10⁷ × Δ / (α × under-have) rounded up, flat with L in place of 2L, and never above t."
 -- The film is 2L × 10⁷ / α, and on a flat wall L × 10⁷ / α.
@@ -66,7 +67,7 @@ surfaceBound s p =
     let q = film (s .line) in
     min (s .temperature) (s .ambient + ceiling ((q .num * difference s) over (q .den * p .lower)))
 
--- of the rung with index r
+-- the answer with the rung of index r
 unfoldable pub answerOf : Sheet → ℕ → Answer
 answerOf s r =
     let p = provided (s .line) (thicknessAt r) in

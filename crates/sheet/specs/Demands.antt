@@ -8,7 +8,7 @@ use lib.ListN.{length, getD}
 use Rattle.quadrature.specs.Ladder.{rungs, thicknessAt}
 use Rattle.quadrature.specs.Cuttings.{lowerSum, upperSum}
 use Rattle.refusals.specs.Cases.{NoneHolds}
-use Rattle.refusals.specs.Response.{refusedWith, complete, FirstOrComplete}
+use Rattle.refusals.specs.Response.{refused, complete, FirstOrComplete}
 use Rattle.balance.specs.declared.verdict.Verdict.{Verdict}
 use Rattle.balance.specs.declared.verdict.Verdict.the-variants.{Sufficient, Insufficient, Undecided}
 use Rattle.balance.specs.Line.{shapeOf}
@@ -30,12 +30,12 @@ Demand1 = (sheet : List ℕ) → FirstOrComplete (cases sheet) (answer sheet) (r
 abbrev pub InsufficientBelow : (ℕ → Verdict) → ℕ → Type 0
 InsufficientBelow v r = (i : ℕ) → i < r → v i ≡ Insufficient
 
--- Demand 2: "The thickness, the checks and the surface temperature are those that the paper's equations and whole-number figures give": the
--- eight bytes, one after the other, the rung being "the first rung that doesn't miss" (01, "Ladder and figures"), which meets
+-- Demand 2: "The thickness, the checks and the surface temperature are those that the paper's equations and whole-number figures give":
+-- what is read in the eight bytes, the rung being the first that doesn't miss, which meets
 pub record AnswerTo (s : Sheet) (bytes : List ℕ) : Type 0 where
   pub rung : ℕ
   pub on-ladder : rung < rungs
-  pub meets : verdicts s rung ≡ Sufficient
+  pub sufficient : verdicts s rung ≡ Sufficient
   pub first : InsufficientBelow (verdicts s) rung
   pub size : length bytes ≡ 8
   pub start : getD bytes 0 0 ≡ 0
@@ -49,11 +49,15 @@ pub record AnswerTo (s : Sheet) (bytes : List ℕ) : Type 0 where
 abbrev pub FirstUndecided : (ℕ → Verdict) → Type 0
 FirstUndecided v = (r : ℕ) × (r < rungs) × (v r ≡ Undecided) × InsufficientBelow v r
 
-pub record Demand2 (sheet : List ℕ) : Type 0 where
+-- "refusals 17 and 18 come in their stated cases only": "all 31 rungs miss", "the first rung that doesn't miss is open" (01, "Sent back
+-- because of the sheet")
+pub record SheetDemand2 (sheet : List ℕ) : Type 0 where
   pub answered : (bytes : List ℕ) → responseTo sheet ≡ complete bytes → AnswerTo (decoded sheet) bytes
-  -- "refusals 17 and 18 come in their stated cases only": "all 31 rungs miss", "the first rung that doesn't miss is open"
-  pub seventeen : (responseTo sheet ≡ refusedWith 17) ↔ (NoneHolds (fieldCases sheet) × InsufficientBelow (verdicts (decoded sheet)) rungs)
-  pub eighteen : (responseTo sheet ≡ refusedWith 18) ↔ (NoneHolds (fieldCases sheet) × FirstUndecided (verdicts (decoded sheet)))
+  pub seventeen : (responseTo sheet ≡ refused 17) ↔ (NoneHolds (fieldCases sheet) × InsufficientBelow (verdicts (decoded sheet)) rungs)
+  pub eighteen : (responseTo sheet ≡ refused 18) ↔ (NoneHolds (fieldCases sheet) × FirstUndecided (verdicts (decoded sheet)))
+
+abbrev pub Demand2 : Type 0
+Demand2 = (sheet : List ℕ) → SheetDemand2 sheet
 
 -- Demand 3: "For every answered sheet, every cutting of the logarithm's area that the paper allows, however fine, and every rung of the
 -- ladder: that rung equals the thickness we give exactly when it meets the exact equation on that cutting's under-sum and the rung below

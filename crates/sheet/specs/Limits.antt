@@ -24,7 +24,7 @@ table =
 abbrev pub unprinted : Row
 unprinted = row 0 0 0
 
--- "1 year-round, 2 seasonal". Refusal 12 meets every other code.
+-- "1 year-round, 2 seasonal". Every other code is refused with 12.
 abbrev pub column : ℕ → Row → ℕ
 column service r = cond (eqb service 1) (r .yearRound) (r .seasonal)
 

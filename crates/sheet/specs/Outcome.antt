@@ -1,12 +1,11 @@
 -- The outcome of a sheet. 01, "Matching forms to places": "The definition gives this paper's number and values for each of the enum's cases."
 -- Assumes nothing.
 use Rattle.refusals.specs.Numbers.{numberOf}
-use Rattle.refusals.specs.Response.{Response, refusedWith, complete}
+use Rattle.refusals.specs.Response.{Response, refused, complete}
 use Rattle.sheet.specs.declared.outcome.Outcome.{Outcome}
 use Rattle.sheet.specs.declared.outcome.Outcome.the-variants.{Refused, Answered}
 use Rattle.sheet.specs.Answer.{encoded}
 
--- the number, 0 where nothing is refused, and the eight bytes
 abbrev pub response : Outcome → Response
-response (Refused why) = refusedWith (numberOf why)
+response (Refused why) = refused (numberOf why)
 response (Answered a) = complete (encoded a)

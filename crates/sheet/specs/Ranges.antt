@@ -1,14 +1,11 @@
--- The ranges of a sheet's fields, by their offsets. 01, "The sheet: 24 bytes".
+-- The ranges of a sheet's fields. 01, "The sheet: 24 bytes".
 -- Assumes nothing.
 use Prim.Native.Nat.{ℕ, _+_, _-_}
 use mathlib.Core.Bool.{Bool, true, false, _||_, cond}
 use mathlib.Core.List.{List, [], _∷_, map}
-use lib.Dec.{ltb}
-use lib.ListN.{getD}
-use Rattle.balance.specs.declared.goal.Goal.{Goal}
-use Rattle.balance.specs.declared.goal.Goal.the-variants.{Economy, Loss, Surface}
-use Rattle.sheet.specs.Bytes.{bigEndian, offsetBinary, zeroDegrees}
-use Rattle.sheet.specs.Sheet.{decoded, goalOf}
+use lib.Dec.{ltb, eqb}
+use Rattle.sheet.specs.declared.fields.Sheet.{Sheet}
+use Rattle.sheet.specs.Bytes.{zeroDegrees}
 
 -- a field: its offset, its value and its range
 pub record Field : Type 0 where
@@ -17,8 +14,8 @@ pub record Field : Type 0 where
   pub least : ℕ
   pub most : ℕ
 
-abbrev pub fieldOf : ℕ → ℕ → ℕ → ℕ → Field
-fieldOf o x l m = record { offset = o; value = x; least = l; most = m }
+abbrev pub field : ℕ → ℕ → ℕ → ℕ → Field
+field o x l m = record { offset = o; value = x; least = l; most = m }
 
 abbrev pub outside : Field → Bool
 outside f = ltb (f .value) (f .least) || ltb (f .most) (f .value)
@@ -27,42 +24,29 @@ unfoldable pub anyOutside : List Field → Bool
 anyOutside [] = false
 anyOutside (f ∷ fs) = outside f || anyOutside fs
 
--- a field of one byte, of two bytes, and of two bytes that are signed
-abbrev pub codeField : List ℕ → ℕ → ℕ → ℕ → Field
-codeField b o = fieldOf o (getD b o 0)
-
-abbrev pub unsignedField : List ℕ → ℕ → ℕ → ℕ → Field
-unsignedField b o = fieldOf o (bigEndian b o 2)
-
-abbrev pub signedField : List ℕ → ℕ → ℕ → ℕ → Field
-signedField b o = fieldOf o (offsetBinary (bigEndian b o 2))
-
 -- "1 economy, 2 loss, 3 surface", "1 year-round, 2 seasonal"
-abbrev pub codes : List ℕ → List Field
-codes b = codeField b 0 1 3 ∷ codeField b 1 1 2 ∷ []
+abbrev pub codes : Sheet → List Field
+codes s = field 0 (s .goal) 1 3 ∷ field 1 (s .service) 1 2 ∷ []
 
 -- "Offsets 14–21 are used for goal 1 only": f, τ, P and S
-abbrev pub economyFields : List ℕ → List Field
-economyFields b = unsignedField b 14 1 65_535 ∷ unsignedField b 16 1 8_784 ∷ unsignedField b 18 1 65_535 ∷ unsignedField b 20 1 10_000 ∷ []
-
-abbrev pub isEconomy : Goal → Bool
-isEconomy (Economy e) = true
-isEconomy (Loss aim) = false
-isEconomy (Surface rise) = false
+abbrev pub economyFields : Sheet → List Field
+economyFields s =
+    field 14 (s .economy .heat) 1 65_535 ∷ field 16 (s .economy .hours) 1 8_784 ∷
+    field 18 (s .economy .insulation) 1 65_535 ∷ field 20 (s .economy .share) 1 10_000 ∷ []
 
 -- D, t, ta, L and α, and for goal 1 the fields above, "their ranges then not applying" for another goal
-abbrev pub ranges : List ℕ → List Field
-ranges b =
-    unsignedField b 4 100 65_535 ∷
-    signedField b 6 (zeroDegrees - 500) (zeroDegrees + 6_500) ∷
-    signedField b 8 (zeroDegrees - 500) (zeroDegrees + 500) ∷
-    unsignedField b 10 1 2_000 ∷
-    unsignedField b 12 100 10_000 ∷
-    cond (isEconomy (goalOf (decoded b))) (economyFields b) []
+abbrev pub ranges : Sheet → List Field
+ranges s =
+    field 4 (s .line .diameter .0) 100 65_535 ∷
+    field 6 (s .temperature) (zeroDegrees - 500) (zeroDegrees + 6_500) ∷
+    field 8 (s .ambient) (zeroDegrees - 500) (zeroDegrees + 500) ∷
+    field 10 (s .line .conductivity) 1 2_000 ∷
+    field 12 (s .line .coefficient) 100 10_000 ∷
+    cond (eqb (s .goal) 1) (economyFields s) []
 
 -- "and are zero otherwise", "The aim is zero for goal 1."
 abbrev pub zeroOnly : Field → Field
-zeroOnly f = fieldOf (f .offset) (f .value) 0 0
+zeroOnly f = field (f .offset) (f .value) 0 0
 
-abbrev pub mustBeZero : List ℕ → List Field
-mustBeZero b = cond (isEconomy (goalOf (decoded b))) (unsignedField b 22 0 0 ∷ []) (map zeroOnly (economyFields b))
+abbrev pub mustBeZero : Sheet → List Field
+mustBeZero s = cond (eqb (s .goal) 1) (field 22 (s .aim) 0 0 ∷ []) (map zeroOnly (economyFields s))

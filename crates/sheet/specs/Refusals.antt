@@ -1,24 +1,25 @@
--- What is sent back. 01, "Sent back because of the sheet": "A refusal returns its number alone. Tests run in this order."
+-- What is sent back. 01, "Sent back because of the sheet".
 -- Assumes nothing.
 use Prim.Native.Nat.{ℕ}
-use mathlib.Core.Bool.{Bool, true, false, not, _&&_}
+use mathlib.Core.Bool.{Bool, false, not, _&&_}
 use mathlib.Core.List.{List, [], _∷_, _++_}
 use lib.Dec.{leb, ltb, eqb}
 use lib.ListN.{length}
 use Rattle.quadrature.specs.Ladder.{rungs}
-use Rattle.refusals.specs.Cases.{Case, case, firstHolding}
+use Rattle.refusals.specs.declared.Refusal.the-variants.{SheetLength, UnknownCode, OutOfRange, NotZero, NotWarmer, AimOutOfReach, NoneSufficient, TooClose}
+use Rattle.refusals.specs.Numbers.{numberOf}
+use Rattle.refusals.specs.Cases.{Case, case}
 use Rattle.refusals.specs.Response.{Response, respond}
 use Rattle.balance.specs.declared.goal.Goal.{Goal}
 use Rattle.balance.specs.declared.goal.Goal.the-variants.{Economy, Loss, Surface}
-use Rattle.balance.specs.declared.verdict.Verdict.{Verdict}
-use Rattle.balance.specs.declared.verdict.Verdict.the-variants.{Sufficient, Insufficient, Undecided}
+use Rattle.balance.specs.Verdict.{isUndecided}
 use Rattle.sheet.specs.declared.fields.Sheet.{Sheet}
 use Rattle.sheet.specs.Sheet.{decoded, surfaceAim, goalOf}
 use Rattle.sheet.specs.Ranges.{anyOutside, codes, ranges, mustBeZero}
 use Rattle.sheet.specs.Search.{verdicts, chosen}
 use Rattle.sheet.specs.Answer.{answer}
 
--- "16: goal 2 with aim 0; goal 3 unless ta < aim < t."
+-- "goal 2 with aim 0; goal 3 unless ta < aim < t."
 abbrev pub aimRefused : Sheet → Goal → Bool
 aimRefused s (Economy e) = false
 aimRefused s (Loss aim) = eqb aim 0
@@ -29,37 +30,30 @@ abbrev pub fieldCases : List ℕ → List Case
 fieldCases bytes =
     let s = decoded bytes in
     -- "11: length is not 24."
-    case 11 (not (eqb (length bytes) 24)) ∷
+    case (numberOf SheetLength) (not (eqb (length bytes) 24)) ∷
     -- "12: goal or service code unknown."
-    case 12 (anyOutside (codes bytes)) ∷
+    case (numberOf UnknownCode) (anyOutside (codes s)) ∷
     -- "13: a field outside its range."
-    case 13 (anyOutside (ranges bytes)) ∷
+    case (numberOf OutOfRange) (anyOutside (ranges s)) ∷
     -- "14: an unused field not zero, or goal 1 with an aim not zero."
-    case 14 (anyOutside (mustBeZero bytes)) ∷
+    case (numberOf NotZero) (anyOutside (mustBeZero s)) ∷
     -- "15: t not above ta."
-    case 15 (leb (s .temperature) (s .ambient)) ∷
-    case 16 (aimRefused s (goalOf s)) ∷
+    case (numberOf NotWarmer) (leb (s .temperature) (s .ambient)) ∷
+    -- "16: goal 2 with aim 0; goal 3 unless ta < aim < t."
+    case (numberOf AimOutOfReach) (aimRefused s (goalOf s)) ∷
     []
-
-abbrev pub isUndecided : Verdict → Bool
-isUndecided Sufficient = false
-isUndecided Insufficient = false
-isUndecided Undecided = true
 
 -- the cases that try the ladder
 abbrev pub ladderCases : Sheet → List Case
 ladderCases s =
     -- "17: all 31 rungs miss."
-    case 17 (eqb (chosen s) rungs) ∷
+    case (numberOf NoneSufficient) (eqb (chosen s) rungs) ∷
     -- "18: the first rung that doesn't miss is open."
-    case 18 (isUndecided (verdicts s (chosen s))) ∷
+    case (numberOf TooClose) (isUndecided (verdicts s (chosen s))) ∷
     []
 
 abbrev pub cases : List ℕ → List Case
 cases bytes = fieldCases bytes ++ ladderCases (decoded bytes)
-
-abbrev pub refusal : List ℕ → ℕ
-refusal bytes = firstHolding (cases bytes)
 
 -- what the call that answers a sheet responds to its bytes
 abbrev pub responseTo : List ℕ → Response

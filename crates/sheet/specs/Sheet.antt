@@ -10,13 +10,16 @@ use Rattle.balance.specs.declared.goal.Goal.the-variants.{Economy, Loss, Surfac
 use Rattle.sheet.specs.declared.fields.Sheet.{Sheet}
 use Rattle.sheet.specs.Bytes.{bigEndian, offsetBinary}
 
--- the fields at the table's offsets, t and ta as counts from −32,768
+-- "2–3": the "line number", which no other figure depends on
+abbrev pub lineNumber : List ℕ → ℕ
+lineNumber b = bigEndian b 2 2
+
+-- the other fields at the table's offsets, t and ta as counts from −32,768
 unfoldable pub decoded : List ℕ → Sheet
 decoded b =
     record {
       goal = getD b 0 0;
       service = getD b 1 0;
-      number = bigEndian b 2 2;
       line = record { diameter = record { 0 = bigEndian b 4 2 }; conductivity = bigEndian b 10 2; coefficient = bigEndian b 12 2 };
       temperature = offsetBinary (bigEndian b 6 2);
       ambient = offsetBinary (bigEndian b 8 2);
@@ -32,7 +35,7 @@ difference s = s .temperature - s .ambient
 abbrev pub surfaceAim : Sheet → ℕ
 surfaceAim s = offsetBinary (s .aim)
 
--- "1 economy, 2 loss, 3 surface", each with what it uses; "s = aim − ta". Refusal 12 meets every other code.
+-- "1 economy, 2 loss, 3 surface", each with what it uses; "s = aim − ta". Every other code is refused with 12.
 abbrev pub goalOf : Sheet → Goal
 goalOf s =
     cond (eqb (s .goal) 1) (Economy (s .economy))

@@ -7,14 +7,14 @@ use lib.ListN.{take}
 use Rattle.fractions.specs.declared.Bounds.{Bounds}
 use Rattle.quadrature.specs.Figures.{lowerStep, upperStep, lowerLog, upperLog}
 use Rattle.balance.specs.Provided.{provided}
-use Rattle.balance.specs.Required.{enclosing}
 use Rattle.sheet.specs.Bytes.{bigEndian, bytesOf, zeroDegrees}
 use Rattle.sheet.specs.Sheet.{decoded, surfaceAim, goalOf}
-use Rattle.sheet.specs.Search.{requirementOf}
+use Rattle.sheet.specs.Search.{requiredOf}
 use Rattle.sheet.specs.Limits.{lossLimit, surfaceLimit}
 use Rattle.sheet.specs.Answer.{answer}
-use Rattle.sheet.specs.Refusals.{fieldCases, refusal}
+use Rattle.sheet.specs.Refusals.{fieldCases, responseTo}
 use Rattle.refusals.specs.Cases.{NoneHolds}
+use Rattle.refusals.specs.Response.{refused, complete}
 
 -- "Sheet F: goal 2, service 1, line 7, D 12,000, t 1,300, ta 200, L 400, α 800, aim 800", for any goal and aim
 abbrev pub sheetF : ℕ → ℕ → List ℕ
@@ -31,14 +31,14 @@ abbrev providedAt : List ℕ → ℕ → Bounds
 providedAt sheet k = provided (decoded sheet .line) k
 
 abbrev requiredBy : List ℕ → Bounds
-requiredBy sheet = let s = decoded sheet in enclosing (requirementOf s (goalOf s))
+requiredBy sheet = let s = decoded sheet in requiredOf s (goalOf s)
 
 abbrev bounds : ℕ → ℕ → Bounds
 bounds l u = record { lower = l; upper = u }
 
 -- the sheet is answered, with a thickness of k mm
 abbrev pub Gives : List ℕ → ℕ → Type 0
-Gives sheet k = (refusal sheet ≡ 0) × (bigEndian (answer sheet) 2 2 ≡ k)
+Gives sheet k = (responseTo sheet ≡ complete (answer sheet)) × (bigEndian (answer sheet) 2 2 ≡ k)
 
 pub record Worked : Type 0 where
   -- "P1: step 100: under 9,950,248,756. P2: over 9,950,495,050. P3: E = D: both logs 0."
@@ -48,17 +48,17 @@ pub record Worked : Type 0 where
   -- "P4: have at 50 mm is 55,000,000 = need, so 50."
   pub p4 : (providedAt (sheetF 2 800) 50 ≡ bounds 55_000_000 55_000_000) × (requiredBy (sheetF 2 800) ≡ bounds 55_000_000 55_000_000) × Gives (sheetF 2 800) 50
   -- and the whole answer, for which the listing prints "7 flat 50 within within 30.0"
-  pub listed : answer (sheetF 2 800) ≡ 0 ∷ 2 ∷ 0 ∷ 50 ∷ 0 ∷ 0 ∷ 1 ∷ 44 ∷ []
+  pub listed : responseTo (sheetF 2 800) ≡ complete (0 ∷ 2 ∷ 0 ∷ 50 ∷ 0 ∷ 0 ∷ 1 ∷ 44 ∷ [])
   -- "P5: aim 799: need between 55,068,836 and 55,068,837, so 60. P6: aim 145: 300. P7: aim 144: refusal 17."
   pub p5 : (requiredBy (sheetF 2 799) ≡ bounds 55_068_836 55_068_837) × Gives (sheetF 2 799) 60
   pub p6 : Gives (sheetF 2 145) 300
-  pub p7 : refusal (sheetF 2 144) ≡ 17
+  pub p7 : responseTo (sheetF 2 144) ≡ refused 17
   -- "P8: … at 0 mm under-have 3,439,380, over-have and high need 3,439,381, low need 3,439,380: refusal 18."
-  pub p8 : (providedAt sheetG 0 ≡ bounds 3_439_380 3_439_381) × (requiredBy sheetG ≡ bounds 3_439_380 3_439_381) × (refusal sheetG ≡ 18)
-  -- "P9: goal 3, aim = t: 16.": of sheet F, and of every sheet for which no earlier case holds
+  pub p8 : (providedAt sheetG 0 ≡ bounds 3_439_380 3_439_381) × (requiredBy sheetG ≡ bounds 3_439_380 3_439_381) × (responseTo sheetG ≡ refused 18)
+  -- "P9: goal 3, aim = t: 16.": of sheet F, and of every sheet for which cases 11 to 15 fail
   pub p9 :
-      (refusal (sheetF 3 1_300) ≡ 16) ×
-      ((sheet : List ℕ) → let s = decoded sheet in s .goal ≡ 3 → surfaceAim s ≡ s .temperature → NoneHolds (take 5 (fieldCases sheet)) → refusal sheet ≡ 16)
+      (responseTo (sheetF 3 1_300) ≡ refused 16) ×
+      ((sheet : List ℕ) → let s = decoded sheet in s .goal ≡ 3 → surfaceAim s ≡ s .temperature → NoneHolds (take 5 (fieldCases sheet)) → responseTo sheet ≡ refused 16)
   -- "P10: year-round, 299.9 °C: 163. P11: seasonal, 450.0: none printed. P12: ta 27.0: 50.0; ta 27.1: 52.1."
   pub p10 : lossLimit 1 (zeroDegrees + 2_999) ≡ 1_630
   pub p11 : lossLimit 2 (zeroDegrees + 4_500) ≡ 0

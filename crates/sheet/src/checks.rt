@@ -1,10 +1,6 @@
 // The checks of a thickness, and the bound on the surface's temperature.
 ghost use mathlib.Core.Path.{_≡_};
 ghost use Prim.Native.Nat.{_^_, _≤_};
-ghost use Rattle.balance.specs.Ranges.{GoalInRange};
-ghost use Rattle.balance.specs.Required.{enclosing};
-ghost use Rattle.sheet.specs.Sheet.{goalOf};
-ghost use Rattle.sheet.specs.Search.{requirementOf, verdictOn};
 ghost use Rattle.sheet.specs.Answer.{lossCheck, surfaceCheck, surfaceBound};
 ghost use Rattle.sheet.specs.Admitted.{Admitted};
 use crate::LossCheck;
@@ -14,33 +10,9 @@ use crate::limits::surface_limit;
 use balance::Goal;
 use balance::Verdict;
 use balance::judge;
-use balance::required;
 use fractions::Bounds;
 
 impl Sheet {
-    // The goal, with what it uses.
-    pub(crate) fn goal(self) -> Goal
-        requires { ⌜ Admitted self ⌝ }
-        ensures { λ r. ⌜ r ≡ goalOf self ⌝ }
-    {
-        if self.goal == 1 {
-            let terms = self.economy;
-            return Goal::Economy(terms);
-        }
-        if self.goal == 2 {
-            return Goal::Loss(self.aim);
-        }
-        Goal::Surface(self.surface_aim() - self.ambient)
-    }
-
-    // What a goal requires of the sheet's line.
-    pub(crate) fn required(self, goal: Goal) -> Bounds
-        requires { ⌜ Admitted self × GoalInRange goal ⌝ }
-        ensures { λ r. ⌜ r ≡ enclosing (requirementOf self goal) ⌝ }
-    {
-        required(self.line, self.temperature - self.ambient, goal)
-    }
-
     // The loss check of a thickness that provides `provided`.
     pub(crate) fn loss_check(self, provided: Bounds) -> LossCheck
         requires { ⌜ Admitted self ⌝ }

@@ -3,7 +3,7 @@ ghost use mathlib.Core.Path.{_≡_};
 ghost use Prim.Native.Nat.{_/_, _%_, _^_};
 ghost use Rattle.sheet.specs.Bytes.{offsetBinary};
 ghost use Rattle.sheet.specs.Answer.{shapeCode, checkCode, lossCode, encoded};
-use crate::fields::ZERO;
+use crate::fields::offset_binary;
 use balance::Shape;
 use balance::Verdict;
 use quadrature::Thickness;
@@ -27,15 +27,16 @@ impl Answer {
         ensures { λ r. ⌜ r ≡ encoded self ⌝ }
     {
         let shape = self.shape;
-        let thickness = self.thickness.0;
         let loss = self.loss;
         let surface = self.surface;
-        let bound = two_complement(self.bound);
+        let thickness_high = high(self.thickness.0);
+        let thickness_low = low(self.thickness.0);
+        let bound = twos_complement(self.bound);
         [
             0,
             shape_code(shape),
-            high(thickness),
-            low(thickness),
+            thickness_high,
+            thickness_low,
             loss_code(loss),
             check_code(surface),
             high(bound),
@@ -73,10 +74,10 @@ fn loss_code(check: LossCheck) -> u8
 }
 
 // A count from −32,768 in two's complement.
-fn two_complement(count: u16) -> u16
+fn twos_complement(count: u16) -> u16
     ensures { λ r. ⌜ r ≡ offsetBinary count ⌝ }
 {
-    ((count as u64 + ZERO) % 65_536) as u16
+    offset_binary(count as u64) as u16
 }
 
 // The first and the second of a number's two bytes.

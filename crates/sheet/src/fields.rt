@@ -8,15 +8,14 @@ use balance::EconomyTerms;
 use balance::Line;
 use quadrature::Diameter;
 
-// 0.0 °C, and every signed 0, counted from −32,768.
-pub(crate) const ZERO: u64 = 32_768;
+// A signed 0, and so 0.0 °C, counted from −32,768.
+pub const ZERO: u64 = 32_768;
 
-// The codes of goal and service, the line number, the insulated line, the temperatures t of the pipe and ta of the air, counted in
+// The codes of goal and service, the insulated line, the temperatures t of the pipe and ta of the air, counted in
 // 0.1 °C from −3,276.8 °C, the economy terms, and the aim as it is written.
 pub struct Sheet {
     pub goal: u64,
     pub service: u64,
-    pub number: u64,
     pub line: Line,
     pub temperature: u64,
     pub ambient: u64,
@@ -32,7 +31,6 @@ impl Sheet {
         Sheet {
             goal: bytes[0] as u64,
             service: bytes[1] as u64,
-            number: unsigned(bytes, 2),
             line: Line {
                 diameter: Diameter(unsigned(bytes, 4)),
                 conductivity: unsigned(bytes, 10),
@@ -64,5 +62,12 @@ pub fn signed(bytes: &[u8], at: usize) -> u64
     requires { ⌜ at + 1 < length (now bytes) ⌝ }
     ensures { λ r. ⌜ r ≡ offsetBinary (bigEndian (now (bytes .entry)) at 2) ⌝ }
 {
-    (unsigned(bytes, at) + ZERO) % 65_536
+    offset_binary(unsigned(bytes, at))
+}
+
+// Two's complement as a count from −32,768, and such a count in two's complement.
+pub(crate) fn offset_binary(n: u64) -> u64
+    ensures { λ r. ⌜ r ≡ offsetBinary n ⌝ }
+{
+    (n % 65_536 + ZERO) % 65_536
 }

@@ -5,10 +5,12 @@ mod fields;
 mod limits;
 mod outcome;
 mod ranges;
+mod requirement;
 
 pub use encoding::Answer;
 pub use encoding::LossCheck;
 pub use fields::Sheet;
+pub use fields::ZERO;
 pub use fields::signed;
 pub use fields::unsigned;
 pub use outcome::Outcome;

@@ -1,9 +1,11 @@
 // The call that answers a sheet.
 ghost use mathlib.Core.Path.{_≡_};
-ghost use Rattle.quadrature.specs.Ladder.{thicknessAt};
+ghost use Prim.Native.Nat.{_<_};
+ghost use Rattle.quadrature.specs.Ladder.{rungs, thicknessAt};
 ghost use Rattle.refusals.specs.Response.{respond};
 ghost use Rattle.balance.specs.Provided.{provided as Provided·provided};
-ghost use Rattle.sheet.specs.Search.{chosen};
+ghost use Rattle.sheet.specs.Sheet.{goalOf};
+ghost use Rattle.sheet.specs.Search.{requiredOf, chosen};
 ghost use Rattle.sheet.specs.Answer.{encoded, answerOf};
 ghost use Rattle.sheet.specs.Refusals.{ladderCases, responseTo};
 ghost use Rattle.sheet.specs.Outcome.{response};
@@ -12,7 +14,6 @@ use crate::Answer;
 use crate::Sheet;
 use balance::Choice;
 use balance::Provision;
-use balance::Verdict;
 use balance::judge;
 use fractions::Bounds;
 use quadrature::Ladder;
@@ -31,10 +32,11 @@ pub fn work_out(bytes: &[u8]) -> Outcome
         return Outcome::Refused(Refusal::SheetLength);
     }
     let sheet = Sheet::decode(bytes);
+    // The tests, in the order of the refusals.
     let unknown = sheet.code_unknown();
     let outside = sheet.out_of_range();
     let unused = sheet.not_zero();
-    let colder = sheet.temperature <= sheet.ambient;
+    let not_warmer = sheet.temperature <= sheet.ambient;
     let beyond = sheet.aim_out_of_reach();
     if unknown {
         return Outcome::Refused(Refusal::UnknownCode);
@@ -45,7 +47,7 @@ pub fn work_out(bytes: &[u8]) -> Outcome
     if unused {
         return Outcome::Refused(Refusal::NotZero);
     }
-    if colder {
+    if not_warmer {
         return Outcome::Refused(Refusal::NotWarmer);
     }
     if beyond {
@@ -57,17 +59,25 @@ pub fn work_out(bytes: &[u8]) -> Outcome
 // Tries the ladder for an admitted sheet.
 fn search_ladder(sheet: Sheet) -> Outcome
     requires { ⌜ Admitted sheet ⌝ }
-    ensures { λ r. ⌜ response r ≡ respond (ladderCases sheet) (encoded (answerOf sheet (chosen sheet))) ⌝ }
+    ensures { λ o. ⌜ response o ≡ respond (ladderCases sheet) (encoded (answerOf sheet (chosen sheet))) ⌝ }
 {
     let required = sheet.required(sheet.goal());
     match Provision::of(sheet.line).search(required) {
         Choice::AllInsufficient => Outcome::Refused(Refusal::NoneSufficient),
-        Choice::Rung(r, provided) => match judge(provided, required) {
-            Verdict::Sufficient => Outcome::Answered(answer_of(sheet, r, provided)),
-            Verdict::Insufficient => Outcome::Refused(Refusal::TooClose),
-            Verdict::Undecided => Outcome::Refused(Refusal::TooClose),
-        },
+        Choice::Rung(r, provided) => judge_rung(sheet, required, r, provided),
     }
+}
+
+// Judges the first rung that is not insufficient: its index is r, and it provides `provided`.
+fn judge_rung(sheet: Sheet, required: Bounds, r: u64, provided: Bounds) -> Outcome
+    requires { ⌜ Admitted sheet × (required ≡ requiredOf sheet (goalOf sheet)) ⌝ }
+    requires { ⌜ (r ≡ chosen sheet) × (r < rungs) × (provided ≡ Provided·provided (sheet .line) (thicknessAt r)) ⌝ }
+    ensures { λ o. ⌜ response o ≡ respond (ladderCases sheet) (encoded (answerOf sheet (chosen sheet))) ⌝ }
+{
+    if judge(provided, required).is_undecided() {
+        return Outcome::Refused(Refusal::TooClose);
+    }
+    Outcome::Answered(answer_of(sheet, r, provided))
 }
 
 // The answer with the rung of index r, which provides `provided`.

@@ -1,25 +1,25 @@
 // What is wrong with a sheet, before a thickness is sought.
 ghost use mathlib.Core.Path.{_≡_};
-ghost use mathlib.Core.List.{List};
 ghost use Prim.Native.Nat.{ℕ};
-ghost use Rattle.sheet.specs.Sheet.{decoded, surfaceAim, goalOf};
-ghost use Rattle.sheet.specs.Ranges.{fieldOf, anyOutside, codes, ranges, economyFields, mustBeZero};
+ghost use Rattle.sheet.specs.Sheet.{surfaceAim, goalOf};
+ghost use Rattle.sheet.specs.Ranges.{field, anyOutside, codes, ranges, economyFields, mustBeZero};
 ghost use Rattle.sheet.specs.Ranges.{outside as Ranges·outside};
 ghost use Rattle.sheet.specs.Refusals.{aimRefused};
 use crate::Sheet;
 use crate::fields::ZERO;
+use crate::fields::offset_binary;
 
 impl Sheet {
     // Is the goal or the service unknown?
     pub(crate) fn code_unknown(self) -> bool
-        ensures { λ r. ⌜ ((bytes : List ℕ) → self ≡ decoded bytes → r ≡ anyOutside (codes bytes)) ⌝ }
+        ensures { λ r. ⌜ r ≡ anyOutside (codes self) ⌝ }
     {
         outside(self.goal, 1, 3) | outside(self.service, 1, 2)
     }
 
     // Is a field outside its range?
     pub(crate) fn out_of_range(self) -> bool
-        ensures { λ r. ⌜ ((bytes : List ℕ) → self ≡ decoded bytes → r ≡ anyOutside (ranges bytes)) ⌝ }
+        ensures { λ r. ⌜ r ≡ anyOutside (ranges self) ⌝ }
     {
         let economy = (self.goal == 1) & self.economy_out_of_range();
         outside(self.line.diameter.0, 100, 65_535)
@@ -31,7 +31,7 @@ impl Sheet {
 
     // Is a field that only the economy goal uses outside its range?
     fn economy_out_of_range(self) -> bool
-        ensures { λ r. ⌜ ((bytes : List ℕ) → self ≡ decoded bytes → r ≡ anyOutside (economyFields bytes)) ⌝ }
+        ensures { λ r. ⌜ r ≡ anyOutside (economyFields self) ⌝ }
     {
         outside(self.economy.heat, 1, 65_535)
             | (outside(self.economy.hours, 1, 8_784)
@@ -39,9 +39,9 @@ impl Sheet {
                     | outside(self.economy.share, 1, 10_000)))
     }
 
-    // Is a field not zero that the goal does not use?
+    // Is a field that the goal does not use other than zero?
     pub(crate) fn not_zero(self) -> bool
-        ensures { λ r. ⌜ ((bytes : List ℕ) → self ≡ decoded bytes → r ≡ anyOutside (mustBeZero bytes)) ⌝ }
+        ensures { λ r. ⌜ r ≡ anyOutside (mustBeZero self) ⌝ }
     {
         if self.goal == 1 {
             return outside(self.aim, 0, 0);
@@ -55,10 +55,10 @@ impl Sheet {
     pub(crate) fn surface_aim(self) -> u64
         ensures { λ r. ⌜ r ≡ surfaceAim self ⌝ }
     {
-        (self.aim % 65_536 + ZERO) % 65_536
+        offset_binary(self.aim)
     }
 
-    // Is the aim none that insulation can reach?
+    // Can no insulation reach the aim?
     pub(crate) fn aim_out_of_reach(self) -> bool
         ensures { λ r. ⌜ r ≡ aimRefused self (goalOf self) ⌝ }
     {
@@ -74,7 +74,7 @@ impl Sheet {
 }
 
 fn outside(value: u64, least: u64, most: u64) -> bool
-    ensures { λ r. ⌜ ((offset : ℕ) → r ≡ Ranges·outside (fieldOf offset value least most)) ⌝ }
+    ensures { λ r. ⌜ ((offset : ℕ) → r ≡ Ranges·outside (field offset value least most)) ⌝ }
 {
     (value < least) | (most < value)
 }

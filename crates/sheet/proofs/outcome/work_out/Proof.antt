@@ -9,8 +9,8 @@ use lib.ListN.{length, take, drop}
 use borrow.Author.Tests.{eq-eqb, ne-eqb}
 use denote.Ref.{now}
 use Rattle.refusals.specs.Cases.{Case, case, NoneHolds}
-use Rattle.refusals.specs.Response.{refusedWith, respond}
-use Rattle.refusals.proofs.Response.{refused-here, later}
+use Rattle.refusals.specs.Response.{refused, respond}
+use Rattle.refusals.proofs.Response.{here, later}
 use Rattle.sheet.specs.declared.fields.Sheet.{Sheet}
 use Rattle.sheet.specs.Sheet.{decoded, goalOf}
 use Rattle.sheet.specs.Ranges.{anyOutside, codes, ranges, mustBeZero}
@@ -29,17 +29,17 @@ module _ (c : tie.After-aim-out-of-reach) where
   length-24 : not (eqb (length sheet-bytes) 24) ≡ false
   length-24 = rw (eq-eqb (length sheet-bytes) 24 (c .before .before .before .before .before .before .if1 .left))
 
-  unknown : anyOutside (codes sheet-bytes) ≡ c .before .before .before .before .code-unknown .result
-  unknown = sym (c .before .before .before .before .code-unknown .ensures sheet-bytes (c .before .before .before .before .before .decode .ensures))
+  unknown : anyOutside (codes (decoded sheet-bytes)) ≡ c .before .before .before .before .code-unknown .result
+  unknown = sym (c .before .before .before .before .code-unknown .ensures ∙ ap (λ (s : Sheet). anyOutside (codes s)) (c .before .before .before .before .before .decode .ensures))
 
-  outside : anyOutside (ranges sheet-bytes) ≡ c .before .before .before .out-of-range .result
-  outside = sym (c .before .before .before .out-of-range .ensures sheet-bytes (c .before .before .before .before .before .decode .ensures))
+  outside : anyOutside (ranges (decoded sheet-bytes)) ≡ c .before .before .before .out-of-range .result
+  outside = sym (c .before .before .before .out-of-range .ensures ∙ ap (λ (s : Sheet). anyOutside (ranges s)) (c .before .before .before .before .before .decode .ensures))
 
-  unused : anyOutside (mustBeZero sheet-bytes) ≡ c .before .before .not-zero .result
-  unused = sym (c .before .before .not-zero .ensures sheet-bytes (c .before .before .before .before .before .decode .ensures))
+  unused : anyOutside (mustBeZero (decoded sheet-bytes)) ≡ c .before .before .not-zero .result
+  unused = sym (c .before .before .not-zero .ensures ∙ ap (λ (s : Sheet). anyOutside (mustBeZero s)) (c .before .before .before .before .before .decode .ensures))
 
-  colder : leb (decoded sheet-bytes .temperature) (decoded sheet-bytes .ambient) ≡ leb (c .before .before .before .before .before .decode .result .temperature) (c .before .before .before .before .before .decode .result .ambient)
-  colder = rw (c .before .before .before .before .before .decode .ensures)
+  not-warmer : leb (decoded sheet-bytes .temperature) (decoded sheet-bytes .ambient) ≡ leb (c .before .before .before .before .before .decode .result .temperature) (c .before .before .before .before .before .decode .result .ambient)
+  not-warmer = rw (c .before .before .before .before .before .decode .ensures)
 
   beyond : aimRefused (decoded sheet-bytes) (goalOf (decoded sheet-bytes)) ≡ c .aim-out-of-reach .result
   beyond = sym (c .aim-out-of-reach .ensures ∙ ap (λ (s : Sheet). aimRefused s (goalOf s)) (c .before .before .before .before .before .decode .ensures))
@@ -47,17 +47,13 @@ module _ (c : tie.After-aim-out-of-reach) where
 -- cases 11 to 16 fail
 passed : (c : tie.Else6) → NoneHolds (fieldCases (sheet-bytes (c .before .before .before .before .before)))
 unfolding NoneHolds
-passed c = let a = c .before .before .before .before .before in (length-24 a, (unknown a ∙ c .before .before .before .before .if2 .left, (outside a ∙ c .before .before .before .if3 .left, (unused a ∙ c .before .before .if4 .left, (colder a ∙ c .before .if5 .left, (beyond a ∙ c .if6 .left, tt))))))
-
--- none before a case holds, and the case does
-here : (b : List ℕ) (before : List Case) (n : ℕ) (x : Bool) (after : List Case) → NoneHolds before → x ≡ true → cases b ≡ before ++ (case (suc n) x ∷ after) → refusedWith (suc n) ≡ responseTo b
-here b before n x after none e is = sym (ap (λ (cs : List Case). respond cs (answer b)) is ∙ refused-here before n x after (answer b) none e)
+passed c = let a = c .before .before .before .before .before in (length-24 a, (unknown a ∙ c .before .before .before .before .if2 .left, (outside a ∙ c .before .before .before .if3 .left, (unused a ∙ c .before .before .if4 .left, (not-warmer a ∙ c .before .if5 .left, (beyond a ∙ c .if6 .left, tt))))))
 
 returns : tie.Need-returns
 unfolding NoneHolds
-returns c = 
+returns c =
     let b = now (c .before .before .args .bytes) in
-    here b [] 10 (not (eqb (length b) 24)) (drop 1 (fieldCases b) ++ ladderCases (decoded b)) tt (rw (ne-eqb (length b) 24 (c .if1 .taken))) refl
+    sym (here [] 11 (not (eqb (length b) 24)) (drop 1 (fieldCases b) ++ ladderCases (decoded b)) (answer b) tt (rw (ne-eqb (length b) 24 (c .if1 .taken))))
 
 decode-requires : tie.Need-decode-requires
 decode-requires c κs = search needs
@@ -76,44 +72,44 @@ aim-out-of-reach-requires c κs = search needs
 
 returns-2 : tie.Need-returns-2
 unfolding NoneHolds
-returns-2 c = 
+returns-2 c =
     let a = c .before in
     let b = sheet-bytes a in
-    here b (take 1 (fieldCases b)) 11 (anyOutside (codes b)) (drop 2 (fieldCases b) ++ ladderCases (decoded b)) (length-24 a, tt) (unknown a ∙ c .if2 .taken) refl
+    sym (here (take 1 (fieldCases b)) 12 (anyOutside (codes (decoded b))) (drop 2 (fieldCases b) ++ ladderCases (decoded b)) (answer b) (length-24 a, tt) (unknown a ∙ c .if2 .taken))
 
 returns-3 : tie.Need-returns-3
 unfolding NoneHolds
-returns-3 c = 
+returns-3 c =
     let a = c .before .before in
     let b = sheet-bytes a in
-    here b (take 2 (fieldCases b)) 12 (anyOutside (ranges b)) (drop 3 (fieldCases b) ++ ladderCases (decoded b)) (length-24 a, (unknown a ∙ c .before .if2 .left, tt)) (outside a ∙ c .if3 .taken) refl
+    sym (here (take 2 (fieldCases b)) 13 (anyOutside (ranges (decoded b))) (drop 3 (fieldCases b) ++ ladderCases (decoded b)) (answer b) (length-24 a, (unknown a ∙ c .before .if2 .left, tt)) (outside a ∙ c .if3 .taken))
 
 returns-4 : tie.Need-returns-4
 unfolding NoneHolds
-returns-4 c = 
+returns-4 c =
     let a = c .before .before .before in
     let b = sheet-bytes a in
-    here b (take 3 (fieldCases b)) 13 (anyOutside (mustBeZero b)) (drop 4 (fieldCases b) ++ ladderCases (decoded b)) (length-24 a, (unknown a ∙ c .before .before .if2 .left, (outside a ∙ c .before .if3 .left, tt))) (unused a ∙ c .if4 .taken) refl
+    sym (here (take 3 (fieldCases b)) 14 (anyOutside (mustBeZero (decoded b))) (drop 4 (fieldCases b) ++ ladderCases (decoded b)) (answer b) (length-24 a, (unknown a ∙ c .before .before .if2 .left, (outside a ∙ c .before .if3 .left, tt))) (unused a ∙ c .if4 .taken))
 
 returns-5 : tie.Need-returns-5
 unfolding NoneHolds
-returns-5 c = 
+returns-5 c =
     let a = c .before .before .before .before in
     let b = sheet-bytes a in
-    here b (take 4 (fieldCases b)) 14 (leb (decoded b .temperature) (decoded b .ambient)) (drop 5 (fieldCases b) ++ ladderCases (decoded b)) (length-24 a, (unknown a ∙ c .before .before .before .if2 .left, (outside a ∙ c .before .before .if3 .left, (unused a ∙ c .before .if4 .left, tt)))) (colder a ∙ c .if5 .taken) refl
+    sym (here (take 4 (fieldCases b)) 15 (leb (decoded b .temperature) (decoded b .ambient)) (drop 5 (fieldCases b) ++ ladderCases (decoded b)) (answer b) (length-24 a, (unknown a ∙ c .before .before .before .if2 .left, (outside a ∙ c .before .before .if3 .left, (unused a ∙ c .before .if4 .left, tt)))) (not-warmer a ∙ c .if5 .taken))
 
 returns-6 : tie.Need-returns-6
 unfolding NoneHolds
-returns-6 c = 
+returns-6 c =
     let a = c .before .before .before .before .before in
     let b = sheet-bytes a in
-    here b (take 5 (fieldCases b)) 15 (aimRefused (decoded b) (goalOf (decoded b))) (drop 6 (fieldCases b) ++ ladderCases (decoded b)) (length-24 a, (unknown a ∙ c .before .before .before .before .if2 .left, (outside a ∙ c .before .before .before .if3 .left, (unused a ∙ c .before .before .if4 .left, (colder a ∙ c .before .if5 .left, tt))))) (beyond a ∙ c .if6 .taken) refl
+    sym (here (take 5 (fieldCases b)) 16 (aimRefused (decoded b) (goalOf (decoded b))) (drop 6 (fieldCases b) ++ ladderCases (decoded b)) (answer b) (length-24 a, (unknown a ∙ c .before .before .before .before .if2 .left, (outside a ∙ c .before .before .before .if3 .left, (unused a ∙ c .before .before .if4 .left, (not-warmer a ∙ c .before .if5 .left, tt))))) (beyond a ∙ c .if6 .taken))
 
 search-ladder-requires : tie.Need-search-ladder-requires
 search-ladder-requires c κs = rw (c .before .before .before .before .before .before .before .before .before .before .decode .ensures) (admitted (sheet-bytes (c .before .before .before .before .before)) (passed c))
 
 returns-7 : tie.Need-returns-7
-returns-7 c = 
+returns-7 c =
     let b = sheet-bytes (c .before .before .before .before .before .before) in
     c .search-ladder .ensures ∙ rw (c .before .before .before .before .before .before .before .before .before .before .before .decode .ensures) (sym (later (fieldCases b) (ladderCases (decoded b)) (answer b) (passed (c .before))))
 

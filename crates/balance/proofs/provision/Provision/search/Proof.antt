@@ -11,21 +11,16 @@ use borrow.Author.Tests.{lt-ltb, le-ltb}
 use Rattle.fractions.specs.declared.Bounds.{Bounds}
 use Rattle.quadrature.specs.Ladder.{rungs, thicknessAt}
 use Rattle.balance.specs.declared.choice.Choice.the-variants.{Rung}
-use Rattle.balance.specs.declared.line.Line.{Line}
-use Rattle.balance.specs.declared.verdict.Verdict.{Verdict}
 use Rattle.balance.specs.Provided.{provided}
-use Rattle.balance.specs.Verdict.{judged, notInsufficient, firstNotInsufficient}
+use Rattle.balance.specs.Verdict.{judged, verdictOf, notInsufficient, firstNotInsufficient}
 use Rattle.balance.proofs.Search.{insufficient-unless, first-within, first-above, first-not-above}
 use Rattle.balance.proofs.Growth.{insufficient-below}
 use Rattle.balance.proofs.provision.Provision.search.Statement.{statement}
 use Rattle.balance.proofs.provision.Provision.search.Tie as tie
 
-abbrev against : Line → Bounds → ℕ → Verdict
-against l q i = judged (provided l (thicknessAt i)) q
-
 abbrev Inv-loop : tie.InvT-loop
 Inv-loop self required low₀ high₀ provided₀ low high tried =
-    let first = firstNotInsufficient (against (self .line) required) in
+    let first = firstNotInsufficient (verdictOf (self .line) required) in
     (low ≤ first) × (first ≤ high) × (high ≤ rungs) × (high < rungs → tried ≡ provided (self .line) (thicknessAt high))
 
 abbrev μ-loop : tie.MeasureT-loop
@@ -37,7 +32,7 @@ count-requires c κs = search needs
 loop-holds : tie.Need-loop-holds Inv-loop μ-loop
 loop-holds c =
     let count = c .count .ensures in
-    (omega arith, omega (arith, first-within (against (c .before .args .self .line) (c .before .args .required))), omega arith, λ lt. absurd (omega arith))
+    (omega arith, omega (arith, first-within (verdictOf (c .before .args .self .line) (c .before .args .required))), omega arith, λ lt. absurd (omega arith))
 
 add-middle : tie.Need-add-middle Inv-loop μ-loop
 add-middle c = omega arith
@@ -70,14 +65,14 @@ module _ (c : tie.After-not-insufficient Inv-loop μ-loop) where
   tried : c .before .before .at .result ≡ provided (start .args .self .line) (thicknessAt middle)
   tried = c .before .before .at .ensures ∙ ap (provided (start .args .self .line)) (c .before .before .before .thickness .ensures)
 
-  verdict : c .before .judge .result ≡ against (start .args .self .line) (start .args .required) middle
+  verdict : c .before .judge .result ≡ verdictOf (start .args .self .line) (start .args .required) middle
   verdict = c .before .judge .ensures ∙ ap (λ (p : Bounds). judged p (start .args .required)) tried
 
 loop-again : tie.Need-loop-again Inv-loop μ-loop
 loop-again c =
     let n = c .before in
     let inv = n .before .before .before .before .before .loop .inv in
-    let ends : notInsufficient (against (start n .args .self .line) (start n .args .required) (middle n)) ≡ true = ap notInsufficient (sym (verdict n)) ∙ sym (n .not-insufficient .ensures) ∙ c .if1 .taken in
+    let ends : notInsufficient (verdictOf (start n .args .self .line) (start n .args .required) (middle n)) ≡ true = ap notInsufficient (sym (verdict n)) ∙ sym (n .not-insufficient .ensures) ∙ c .if1 .taken in
     (inv .0, first-not-above _ (middle n) ends, omega arith, λ lt. tried n)
 
 add-low : tie.Need-add-low Inv-loop μ-loop
@@ -92,8 +87,8 @@ loop-again-2 c =
     let l = start n .args .self .line in
     let q = start n .args .required in
     let inv = n .before .before .before .before .before .loop .inv in
-    let goes-on : notInsufficient (against l q (middle n)) ≡ false = ap notInsufficient (sym (verdict n)) ∙ sym (n .not-insufficient .ensures) ∙ c .if1 .left in
-    let above = first-above (against l q) (λ i j le. insufficient-below l q le) (middle n) (omega arith) (insufficient-unless _ goes-on) in
+    let goes-on : notInsufficient (verdictOf l q (middle n)) ≡ false = ap notInsufficient (sym (verdict n)) ∙ sym (n .not-insufficient .ensures) ∙ c .if1 .left in
+    let above = first-above (verdictOf l q) (λ i j le. insufficient-below l q le) (middle n) (omega arith) (insufficient-unless _ goes-on) in
     (omega arith, inv .1, inv .2, inv .3)
 
 count-requires-2 : tie.Need-count-requires-2 Inv-loop μ-loop
@@ -102,7 +97,7 @@ count-requires-2 c κs = search needs
 returns : tie.Need-returns Inv-loop μ-loop
 returns c =
     let a = c .before .before .before .before .before .args in
-    let first = firstNotInsufficient (against (a .self .line) (a .required)) in
+    let first = firstNotInsufficient (verdictOf (a .self .line) (a .required)) in
     let all : ltb first rungs ≡ false = le-ltb first rungs (omega arith) in
     rw all
 
@@ -110,7 +105,7 @@ returns-2 : tie.Need-returns-2 Inv-loop μ-loop
 returns-2 c =
     let a = c .before .before .before .before .before .args in
     let loop = c .before .before .before .loop in
-    let first = firstNotInsufficient (against (a .self .line) (a .required)) in
+    let first = firstNotInsufficient (verdictOf (a .self .line) (a .required)) in
     let found : first ≡ loop .low = omega arith in
     let high : loop .high ≡ loop .low = omega arith in
     let lt : loop .low < rungs = omega arith in

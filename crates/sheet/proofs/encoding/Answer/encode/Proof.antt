@@ -6,17 +6,17 @@ use borrow.Author.Needs.{needs}
 use Rattle.sheet.proofs.encoding.Answer.encode.Statement.{statement}
 use Rattle.sheet.proofs.encoding.Answer.encode.Tie as tie
 
-two-complement-requires : tie.Need-two-complement-requires
-two-complement-requires c κs = search needs
-
-shape-code-requires : tie.Need-shape-code-requires
-shape-code-requires c κs = search needs
-
 high-requires : tie.Need-high-requires
 high-requires c κs = search needs
 
 low-requires : tie.Need-low-requires
 low-requires c κs = search needs
+
+twos-complement-requires : tie.Need-twos-complement-requires
+twos-complement-requires c κs = search needs
+
+shape-code-requires : tie.Need-shape-code-requires
+shape-code-requires c κs = search needs
 
 loss-code-requires : tie.Need-loss-code-requires
 loss-code-requires c κs = search needs
@@ -34,24 +34,24 @@ returns : tie.Need-returns
 unfolding bytesOf encoded
 returns c =
     rw (
-      c .before .before .before .before .before .before .shape-code .ensures,
-      c .before .before .before .before .before .high .ensures,
-      c .before .before .before .before .low .ensures,
+      c .before .before .before .before .shape-code .ensures,
+      c .before .before .before .before .before .before .before .high .ensures,
+      c .before .before .before .before .before .before .low .ensures,
       c .before .before .before .loss-code .ensures,
       c .before .before .check-code .ensures,
       c .before .high2 .ensures,
       c .low2 .ensures,
-      c .before .before .before .before .before .before .before .two-complement .ensures,
+      c .before .before .before .before .before .twos-complement .ensures,
     )
 
 pub encode-spec : {M : Type 1} → statement M
 encode-spec =
     tie.close
     (tie.spec
-    two-complement-requires
-    shape-code-requires
     high-requires
     low-requires
+    twos-complement-requires
+    shape-code-requires
     loss-code-requires
     check-code-requires
     high-requires-2

@@ -1,7 +1,6 @@
 -- `Sheet::code_unknown` meets its contract.
 -- Assumes nothing.
 use mathlib.Core.Bool.{or-false}
-use Rattle.sheet.specs.Sheet.{decoded}
 use Rattle.sheet.specs.Ranges.{anyOutside}
 use borrow.Author.Needs.{needs}
 use Rattle.sheet.proofs.fields.Sheet.code_unknown.Statement.{statement}
@@ -14,8 +13,8 @@ outside-requires-2 : tie.Need-outside-requires-2
 outside-requires-2 c κs = search needs
 
 returns : tie.Need-returns
-unfolding decoded anyOutside
-returns c = λ bytes is. rw (c .before .outside .ensures 0, c .outside2 .ensures 1, is, or-false)
+unfolding anyOutside
+returns c = rw (c .before .outside .ensures 0, c .outside2 .ensures 1, or-false)
 
 pub code-unknown-spec : {M : Type 1} → statement M
 code-unknown-spec = tie.close (tie.spec outside-requires outside-requires-2 returns)

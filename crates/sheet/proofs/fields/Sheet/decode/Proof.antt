@@ -27,14 +27,14 @@ unsigned-requires-2 c κs = search needs
 unsigned-requires-3 : tie.Need-unsigned-requires-3
 unsigned-requires-3 c κs = search needs
 
-unsigned-requires-4 : tie.Need-unsigned-requires-4
-unsigned-requires-4 c κs = search needs
-
 signed-requires : tie.Need-signed-requires
 signed-requires c κs = search needs
 
 signed-requires-2 : tie.Need-signed-requires-2
 signed-requires-2 c κs = search needs
+
+unsigned-requires-4 : tie.Need-unsigned-requires-4
+unsigned-requires-4 c κs = search needs
 
 unsigned-requires-5 : tie.Need-unsigned-requires-5
 unsigned-requires-5 c κs = search needs
@@ -48,36 +48,32 @@ unsigned-requires-7 c κs = search needs
 unsigned-requires-8 : tie.Need-unsigned-requires-8
 unsigned-requires-8 c κs = search needs
 
-unsigned-requires-9 : tie.Need-unsigned-requires-9
-unsigned-requires-9 c κs = search needs
-
 returns : tie.Need-returns
 unfolding decoded
 returns c =
     let economy = c .before .before .before .before in
     let line = economy .before .before .before in
-    let b = line .before .before .before .before .before .before .before .args .bytes .now in
+    let b = line .before .before .before .before .before .before .args .bytes .now in
     λ j.
     record {
       goal = decoded b .goal;
       service = decoded b .service;
-      number = line .before .before .before .unsigned .ensures .0 j;
       line =
           record {
-            diameter = record { 0 = line .before .before .unsigned2 .ensures .0 j };
-            conductivity = line .before .unsigned3 .ensures .0 j;
-            coefficient = line .unsigned4 .ensures .0 j;
+            diameter = record { 0 = line .before .before .unsigned .ensures .0 j };
+            conductivity = line .before .unsigned2 .ensures .0 j;
+            coefficient = line .unsigned3 .ensures .0 j;
           };
       temperature = economy .before .before .signed .ensures j;
       ambient = economy .before .signed2 .ensures j;
       economy =
           record {
-            heat = economy .unsigned5 .ensures .0 j;
-            hours = c .before .before .before .unsigned6 .ensures .0 j;
-            insulation = c .before .before .unsigned7 .ensures .0 j;
-            share = c .before .unsigned8 .ensures .0 j;
+            heat = economy .unsigned4 .ensures .0 j;
+            hours = c .before .before .before .unsigned5 .ensures .0 j;
+            insulation = c .before .before .unsigned6 .ensures .0 j;
+            share = c .before .unsigned7 .ensures .0 j;
           };
-      aim = c .unsigned9 .ensures .0 j;
+      aim = c .unsigned8 .ensures .0 j;
     }
 
 pub decode-spec : {M : Type 1} → statement M
@@ -91,12 +87,11 @@ decode-spec =
     unsigned-requires
     unsigned-requires-2
     unsigned-requires-3
-    unsigned-requires-4
     signed-requires
     signed-requires-2
+    unsigned-requires-4
     unsigned-requires-5
     unsigned-requires-6
     unsigned-requires-7
     unsigned-requires-8
-    unsigned-requires-9
     returns)

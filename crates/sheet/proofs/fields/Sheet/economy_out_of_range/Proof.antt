@@ -1,7 +1,6 @@
 -- `Sheet::economy_out_of_range` meets its contract.
 -- Assumes nothing.
 use mathlib.Core.Bool.{or-false}
-use Rattle.sheet.specs.Sheet.{decoded}
 use Rattle.sheet.specs.Ranges.{anyOutside}
 use borrow.Author.Needs.{needs}
 use Rattle.sheet.proofs.fields.Sheet.economy_out_of_range.Statement.{statement}
@@ -20,9 +19,8 @@ outside-requires-4 : tie.Need-outside-requires-4
 outside-requires-4 c κs = search needs
 
 returns : tie.Need-returns
-unfolding decoded anyOutside
-returns c = λ bytes is.
-    rw (c .before .before .before .outside .ensures 14, c .before .before .outside2 .ensures 16, c .before .outside3 .ensures 18, c .outside4 .ensures 20, is, or-false)
+unfolding anyOutside
+returns c = rw (c .before .before .before .outside .ensures 14, c .before .before .outside2 .ensures 16, c .before .outside3 .ensures 18, c .outside4 .ensures 20, or-false)
 
 pub economy-out-of-range-spec : {M : Type 1} → statement M
 economy-out-of-range-spec =

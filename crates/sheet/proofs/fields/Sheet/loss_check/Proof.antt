@@ -6,7 +6,7 @@ use borrow.Author.Tests.{eq-eqb, ne-eqb}
 use Rattle.balance.specs.declared.goal.Goal.the-variants.{Loss}
 use Rattle.balance.specs.Verdict.{judged}
 use Rattle.sheet.specs.declared.encoding.LossCheck.the-variants.{Judged}
-use Rattle.sheet.specs.Search.{verdictOn}
+use Rattle.sheet.specs.Search.{requiredOf}
 use Rattle.sheet.specs.Limits.{lossLimit}
 use Rattle.sheet.specs.Answer.{lossCheck}
 use borrow.Author.Needs.{needs}
@@ -33,7 +33,7 @@ unfolding lossCheck
 returns-2 c =
     let a = c .before .before .before .before .args in
     let limit = c .before .before .before .loss-limit .ensures in
-    let verdict = c .judge .ensures ∙ ap (judged (a .provided)) (c .before .required .ensures) ∙ ap (λ (x : ℕ). verdictOn (a .self) (a .provided) (Loss x)) limit in
+    let verdict = c .judge .ensures ∙ ap (judged (a .provided)) (c .before .required .ensures) ∙ ap (λ (x : ℕ). judged (a .provided) (requiredOf (a .self) (Loss x))) limit in
     rw (ne-eqb (lossLimit (a .self .service) (a .self .temperature)) 0 (λ e. c .before .before .if1 .left (limit ∙ e))) (ap Judged verdict)
 
 pub loss-check-spec : {M : Type 1} → statement M

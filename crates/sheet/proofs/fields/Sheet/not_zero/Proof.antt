@@ -1,11 +1,8 @@
 -- `Sheet::not_zero` meets its contract.
 -- Assumes nothing.
-use mathlib.Core.Path.{sym, ap, _∙_}
 use mathlib.Core.Bool.{or-false}
-use Rattle.sheet.specs.declared.fields.Sheet.{Sheet}
-use Rattle.sheet.specs.Sheet.{decoded}
+use borrow.Author.Tests.{eq-eqb, ne-eqb}
 use Rattle.sheet.specs.Ranges.{anyOutside}
-use Rattle.sheet.proofs.Inside.{economy-goal, other-goal}
 use borrow.Author.Needs.{needs}
 use Rattle.sheet.proofs.fields.Sheet.not_zero.Statement.{statement}
 use Rattle.sheet.proofs.fields.Sheet.not_zero.Tie as tie
@@ -14,8 +11,8 @@ outside-requires : tie.Need-outside-requires
 outside-requires c κs = search needs
 
 returns : tie.Need-returns
-unfolding decoded anyOutside
-returns c = λ bytes is. rw (economy-goal (decoded bytes) (sym (ap (λ (s : Sheet). s .goal) is) ∙ c .before .if1 .taken), c .outside .ensures 22, is, or-false)
+unfolding anyOutside
+returns c = rw (eq-eqb (c .before .before .before .args .self .goal) 1 (c .before .if1 .taken), c .outside .ensures 22, or-false)
 
 outside-requires-2 : tie.Need-outside-requires-2
 outside-requires-2 c κs = search needs
@@ -30,9 +27,9 @@ outside-requires-5 : tie.Need-outside-requires-5
 outside-requires-5 c κs = search needs
 
 returns-2 : tie.Need-returns-2
-unfolding decoded anyOutside
-returns-2 c = λ bytes is.
-    rw (other-goal (decoded bytes) (λ e. c .before .before .before .before .if1 .left (ap (λ (s : Sheet). s .goal) is ∙ e)), c .before .before .before .outside2 .ensures 14, c .before .before .outside3 .ensures 16, c .before .outside4 .ensures 18, c .outside5 .ensures 20, is, or-false)
+unfolding anyOutside
+returns-2 c =
+    rw (ne-eqb (c .before .before .before .before .before .before .args .self .goal) 1 (c .before .before .before .before .if1 .left), c .before .before .before .outside2 .ensures 14, c .before .before .outside3 .ensures 16, c .before .outside4 .ensures 18, c .outside5 .ensures 20, or-false)
 
 pub not-zero-spec : {M : Type 1} → statement M
 not-zero-spec =

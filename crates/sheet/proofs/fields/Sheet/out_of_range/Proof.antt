@@ -1,10 +1,8 @@
 -- `Sheet::out_of_range` meets its contract.
 -- Assumes nothing.
-use mathlib.Core.Bool.{or-false}
-use Rattle.sheet.specs.declared.fields.Sheet.{Sheet}
-use Rattle.sheet.specs.Sheet.{decoded}
+use lib.Dec.{eqb}
 use Rattle.sheet.specs.Ranges.{anyOutside, economyFields}
-use Rattle.sheet.proofs.Inside.{if-economy}
+use Rattle.sheet.proofs.Inside.{if-goal}
 use borrow.Author.Needs.{needs}
 use Rattle.sheet.proofs.fields.Sheet.out_of_range.Statement.{statement}
 use Rattle.sheet.proofs.fields.Sheet.out_of_range.Tie as tie
@@ -40,9 +38,10 @@ outside-requires-5 : tie.Need-outside-requires-5
 outside-requires-5 c κs = search needs
 
 returns : tie.Need-returns
-unfolding decoded anyOutside
-returns c = λ bytes is.
-    rw (c .before .before .before .before .before .economy-out-of-range .ensures bytes is, c .before .before .before .before .outside .ensures 4, c .before .before .before .outside2 .ensures 6, c .before .before .outside3 .ensures 8, c .before .outside4 .ensures 10, c .outside5 .ensures 12, is, if-economy (decoded bytes) (economyFields bytes))
+unfolding anyOutside
+returns c =
+    let s = c .before .before .before .before .before .before .before .args .self in
+    rw (c .before .before .before .before .before .economy-out-of-range .ensures, if-goal (eqb (s .goal) 1) (economyFields s), c .before .before .before .before .outside .ensures 4, c .before .before .before .outside2 .ensures 6, c .before .before .outside3 .ensures 8, c .before .outside4 .ensures 10, c .outside5 .ensures 12)
 
 pub out-of-range-spec : {M : Type 1} → statement M
 out-of-range-spec =

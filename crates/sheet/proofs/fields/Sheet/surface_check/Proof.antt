@@ -9,7 +9,7 @@ use borrow.Author.Tests.{le-leb, lt-leb, leb-true}
 use Rattle.balance.specs.declared.goal.Goal.the-variants.{Surface}
 use Rattle.balance.specs.Verdict.{judged}
 use Rattle.sheet.specs.Bytes.{zeroDegrees}
-use Rattle.sheet.specs.Search.{verdictOn}
+use Rattle.sheet.specs.Search.{requiredOf}
 use Rattle.sheet.specs.Limits.{surfaceLimit}
 use Rattle.sheet.specs.Answer.{surfaceCheck}
 use borrow.Author.Needs.{needs}
@@ -51,7 +51,7 @@ unfolding surfaceCheck
 returns-2 c =
     let a = c .before .before .before .before .before .before .args in
     let limit = c .before .before .before .before .before .surface-limit .ensures in
-    let verdict = c .judge .ensures ∙ ap (judged (a .provided)) (c .before .required .ensures) ∙ ap (λ (x : ℕ). verdictOn (a .self) (a .provided) (Surface (x - a .self .ambient))) limit in
+    let verdict = c .judge .ensures ∙ ap (judged (a .provided)) (c .before .required .ensures) ∙ ap (λ (x : ℕ). judged (a .provided) (requiredOf (a .self) (Surface (x - a .self .ambient)))) limit in
     rw (lt-leb (a .self .temperature) (surfaceLimit (a .self .ambient)) (rw (← limit) (c .before .before .before .if1 .left))) verdict
 
 pub surface-check-spec : {M : Type 1} → statement M

@@ -1,0 +1,43 @@
+#!/usr/bin/env python3
+"""The listing program of document 01 by itself: plain, slow and exact, sharing nothing with the crates.
+
+    python3 tools/listing.py < crates/listing/stdin > crates/listing/stdout
+
+reads sheets one after another from standard input and prints the listing.
+"""
+import sys
+
+sys.dont_write_bytecode = True
+from sheet import answer, signed
+
+HEADER = "line shape mm loss surface upto"
+SHAPES = {1: "cylinder", 2: "flat"}
+CHECKS = ["within", "over", "close", "none"]
+
+
+def degrees(tenths):
+    """Tenths of a degree in degrees: one decimal, and a minus sign below zero."""
+    return f"{'-' if tenths < 0 else ''}{abs(tenths) // 10}.{abs(tenths) % 10}"
+
+
+def line(piece):
+    """The line for one piece: a sheet of 24 bytes, or a short last piece of 1 to 23."""
+    result = answer(piece)
+    if len(piece) < 24:
+        return f"- refused {result}"
+    number = 256 * piece[2] + piece[3]
+    if isinstance(result, int):
+        return f"{number} refused {result}"
+    _, shape, high, low, loss, surface, *bound = result
+    upto = degrees(signed(256 * bound[0] + bound[1]))
+    return f"{number} {SHAPES[shape]} {256 * high + low} {CHECKS[loss]} {CHECKS[surface]} {upto}"
+
+
+def listing(data):
+    """The whole listing; the header stands first, also for empty input."""
+    lines = [HEADER] + [line(data[i:i + 24]) for i in range(0, len(data), 24)]
+    return "".join(text + "\n" for text in lines)
+
+
+if __name__ == "__main__":
+    sys.stdout.write(listing(sys.stdin.buffer.read()))

@@ -1,0 +1,310 @@
+#!/usr/bin/env python3
+"""The sheets of the listing's stored run: F and G of document 01, then sheets of every kind at random, from a fixed seed.
+
+    python3 tools/sheets.py > crates/listing/stdin
+
+writes the sheets to standard output, and to standard error how many there are of each class. The stored run was drawn with
+Python 3.11; other versions may draw other sheets.
+"""
+import sys
+from collections import Counter
+from random import Random
+
+sys.dont_write_bytecode = True
+from near import (aimed, allowed, between, chosen, close_loss, close_surface, edge, fields, have, level, moved, open_at,
+                  over_loss, packed, surface_limit, within_loss)
+from sheet import answer, sheet_of, signed
+
+F = sheet_of(2, 1, 12_000, 1_300, 200, 400, 800, 0, 0, 0, 0, 800, line=7)
+G = sheet_of(2, 1, 10_001, 300, 200, 400, 1_163, 0, 0, 0, 0, 1_163, line=9)
+LINES = [0, 1, 9, 10, 99, 100, 255, 256, 999, 1_000, 9_999, 10_000, 32_767, 32_768, 65_534, 65_535]
+RANGES = dict(D=(100, 65_535), t=(-500, 6_500), ta=(-500, 500), L=(1, 2_000), alpha=(100, 10_000))
+PRICES = dict(f=(1, 65_535), tau=(1, 8_784), P=(1, 65_535), S=(1, 10_000))
+
+
+def kind(r):
+    """A goal, and whether the wall is flat."""
+    return r.randint(1, 3), r.random() < 0.4
+
+
+def rung(r):
+    """A thickness of the ladder, low ones more often."""
+    return 10 * r.choice([r.randint(0, 30), r.randint(0, 10)])
+
+
+def good(r, **fixed):
+    """An answered sheet of any goal, shape and thickness."""
+    while True:
+        x = between(r, fields(r, *kind(r), **fixed), rung(r))
+        if x:
+            return x
+
+
+def answered(r):
+    """One such sheet."""
+    return [good(r)]
+
+
+def small_pipe(r):
+    """A pipe of 10 to 60 mm."""
+    return [good(r, D=r.randint(100, 600))]
+
+
+def border_diameter(r):
+    """The same line as each of the widest cylinders and of the narrowest flat walls."""
+    x = good(r, D=r.choice([10_000, 10_001]))
+    return [{**x, "D": D} for D in (9_999, 10_000, 10_001, 10_002)]
+
+
+def any_aim(r):
+    """Fields in their ranges, the aim anything: mostly bare, beyond the ladder, or an aim that is refused."""
+    x = fields(r, *kind(r))
+    return [x if x["goal"] == 1 else {**x, "aim": r.randint(0, 65_535) if x["goal"] == 2 else r.randint(-600, 6_600)}]
+
+
+def bare(r):
+    """Thickness 0. Under goal 3 bare pipe never meets, since the aim is below t."""
+    return [chosen(r, r.randint(1, 2), r.random() < 0.4, 0)]
+
+
+def top(r):
+    """One of the two highest rungs."""
+    return [chosen(r, *kind(r), r.choice([290, 300]))]
+
+
+def beyond(r):
+    """A need above the highest rung, by little or by much."""
+    goal, flat = kind(r)
+    while True:
+        x = fields(r, goal, flat)
+        y = aimed(x, have(x, 300)[1] * r.randint(1_001, r.choice([1_010, 3_000])) // 1_000)
+        if allowed(y):
+            return [y]
+
+
+def unknown_code(r):
+    """A goal or a service that is not known."""
+    name, known = r.choice([("goal", 3), ("service", 2)])
+    return [{**good(r), name: r.choice([0, known + 1, known + 2, 255, r.randint(known + 1, 255)])}]
+
+
+def range_edges(r):
+    """Under each goal, each field at each end of its range, and one outside where 16 bits hold that."""
+    made = []
+    for goal in (1, 2, 3):
+        x = chosen(r, goal, r.random() < 0.4, 10 * r.randint(1, 10))
+        for name, (low, high) in {**RANGES, **(PRICES if goal == 1 else {})}.items():
+            made += [{**x, name: v} for v in (low - 1, low, high, high + 1) if v <= 65_535]
+    return made
+
+
+def out_of_range(r):
+    """One field far outside of its range."""
+    x = good(r)
+    return [{**x, **r.choice([dict(D=r.randint(0, 99)), dict(t=r.randint(6_501, 32_767)), dict(t=r.randint(-32_768, -501)),
+                              dict(ta=r.randint(501, 32_767)), dict(ta=r.randint(-32_768, -501)),
+                              dict(L=r.randint(2_001, 65_535)), dict(alpha=r.randint(10_001, 65_535))])}]
+
+
+def unused_field(r):
+    """A field that must be zero and is not, by one of its bits or by many."""
+    x = good(r)
+    name = "aim" if x["goal"] == 1 else r.choice(list(PRICES))
+    return [{**x, name: r.choice([1 << r.randrange(16), r.randint(1, 65_535)])}]
+
+
+def not_warmer(r):
+    """The pipe a little or much colder than the air, or just as warm; and a tenth warmer."""
+    x = good(r, ta=r.randint(-490, 490))
+    return [{**x, "t": x["ta"] - r.choice([0, 1, 2, r.randint(0, x["ta"] + 500)])}, {**x, "t": x["ta"] + 1}]
+
+
+def aim_edge(r):
+    """Aims at and around 0, ta and t."""
+    x = good(r)
+    if x["goal"] == 1:
+        return [{**x, "aim": r.choice([0, 1, 65_535])}]
+    at = r.choice([0, x["ta"], x["t"]])
+    return [{**x, "aim": at + r.choice([-1, 0, 1])}]
+
+
+def around_zero(r):
+    """A temperature of the air, the pipe or the surface next to zero."""
+    at, by = r.randint(-3, 3), r.randint(3, 400)
+    t, ta = r.choice([(at + by, at), (at, at - by), (at + by, at - by)])
+    return [good(r, t=t, ta=ta)]
+
+
+def cold_bound(r):
+    """A surface bound below zero or next to it: both temperatures are moved by as much."""
+    while True:
+        x = chosen(r, r.randint(1, 2), r.random() < 0.4, 10 * r.randint(0, 20))
+        result = answer(packed(x))
+        wanted = r.choice([r.randint(-12, 12), r.randint(-499, -1), -499, -5, 0])
+        by = wanted - signed(256 * result[6] + result[7])
+        if -500 <= x["ta"] + by <= 500 and x["t"] + by <= 6_500:
+            return [{**x, "t": x["t"] + by, "ta": x["ta"] + by}]
+
+
+def coldest_bound(r):
+    """The lowest bound that there is, -49.9."""
+    while True:
+        x = chosen(r, 2, r.random() < 0.4, 10 * r.randint(3, 10), ta=-500, t=r.randint(-497, -400))
+        result = answer(packed(x))
+        if signed(256 * result[6] + result[7]) == -499:
+            return [x]
+
+
+def row_edge(r):
+    """A pipe at a temperature of the loss table, and a tenth below and above."""
+    t = 500 * r.randint(1, 13)
+    x = good(r, t=t)
+    y = {**x, "service": 3 - x["service"]}
+    return [{**z, "t": v} for z in (x, y) for v in (t - 1, t, t + 1) if v <= 6_500]
+
+
+def limit_edges(r):
+    """For each limit of the loss table, a sheet just within it and one just over it."""
+    return [side(r, 2, r.random() < 0.4, 40, service=service, t=min(t + r.choice([0, 499]), 6_500))
+            for service, last in ((1, 6_500), (2, 4_000)) for t in range(500, last + 1, 500) for side in (within_loss, over_loss)]
+
+
+def no_limit(r):
+    """No loss limit printed."""
+    if r.random() < 0.5:
+        return [good(r, service=2, t=r.randint(4_500, 6_500))]
+    ta = r.randint(-500, 450)
+    return [good(r, ta=ta, t=r.randint(ta + 2, 499))]
+
+
+def surface_edges(r):
+    """Air around 27.0 degrees and at the ends, and bare pipes around the surface limit."""
+    made = []
+    for ta in (-500, 269, 270, 271, 500, r.randint(-500, 500)):
+        t = surface_limit(dict(ta=ta))
+        x = chosen(r, r.randint(1, 2), r.random() < 0.4, 0, t=t, ta=ta)
+        made += [{**x, "t": v} for v in (t - 1, t, t + 1)] + [good(r, t=t + r.randint(1, 300), ta=ta)]
+    return made
+
+
+def too_close(r, goal, flat, k, **fixed):
+    """A sheet for which k mm are open, and its neighbours."""
+    x = open_at(r, goal, flat, k, **fixed)
+    return [y for y in (moved(x, -1), x, moved(x, 1)) if y["goal"] == 3 or allowed(y)]
+
+
+def open_small(r):
+    """Small pipes, where the figures lie furthest apart."""
+    return too_close(r, r.randint(1, 3), False, rung(r), D=r.randint(100, 600))
+
+
+def open_cylinder(r):
+    """Pipes from 100 mm up."""
+    return too_close(r, r.randint(1, 3), False, rung(r), D=r.randint(1_000, 10_000))
+
+
+def open_flat(r):
+    """Flat walls, where only roundings lie between the figures."""
+    return too_close(r, r.randint(1, 3), True, rung(r))
+
+
+def open_bare(r):
+    """Rung 0 open."""
+    return too_close(r, *kind(r), 0)
+
+
+def open_top(r):
+    """The last rung open."""
+    return too_close(r, *kind(r), 300)
+
+
+def open_edge(r):
+    """The last need that a rung meets, the first and the last that leave it open, the first that it misses."""
+    goal, flat, k = r.randint(1, 2), r.random() < 0.3, 10 * r.randint(0, 20)
+    return [edge(r, goal, flat, k, side, by) for side in (0, 1) for by in (0, 1)]
+
+
+def exact_root(r):
+    """An economy sheet whose need is a whole number of nanometres, 18,970 x, and what a rung provides on a flat wall."""
+    while True:
+        m = r.randint(1, 60)
+        k, L = 10 * (1_897 * m // 10_000), 1_897 * m % 10_000
+        if 1 <= L <= 2_000:
+            x = fields(r, 1, True, t=100 * m, ta=0, L=L, alpha=10_000, f=100, tau=100 * m, P=L, S=1_000)
+            return [{**x, "f": f} for f in (99, 100, 101)]
+
+
+def exact(r):
+    """A flat wall that needs just what a rung provides, a whole number of nanometres: it meets."""
+    alpha = r.choice([100, 125, 160, 200, 250, 320, 400, 500, 625, 800, 1_000, 1_250, 1_600, 2_000, 2_500, 4_000, 5_000, 10_000])
+    x = level(r, r.randint(2, 3), 10 * r.randint(1, 30), alpha=alpha)
+    return [y for y in (moved(x, -1), x, moved(x, 1)) if allowed(y)]
+
+
+def loss_too_close(r):
+    """A loss check that is too close."""
+    return [close_loss(r, *kind(r), 10 * r.randint(0, 15))]
+
+
+def surface_too_close(r):
+    """A surface check that is too close."""
+    return [close_surface(r, *kind(r), 10 * r.randint(1, 15))]
+
+
+def several_faults(r):
+    """Two or more fields made bad at once."""
+    x = good(r)
+    bad = int(x["goal"] != 1)
+    faults = [dict(goal=r.choice([0, 4])), dict(service=r.choice([0, 3])), dict(D=r.randint(0, 99)), dict(L=2_001),
+              dict(alpha=99), dict(P=bad), dict(f=bad), dict(t=x["ta"]), dict(t=x["ta"] - 1), dict(aim=1 - bad)]
+    for fault in r.sample(faults, r.randint(2, 3)):
+        x.update(fault)
+    return [x]
+
+
+def random_bytes(r):
+    """A sheet of bytes at random, mostly under known codes."""
+    x = good(r)
+    for name in ["line", "D", "t", "ta", "L", "alpha", "f", "tau", "P", "S", "aim"]:
+        x[name] = r.randint(0, 65_535)
+    return [x if r.random() < 0.7 else {**x, "goal": r.randint(0, 255), "service": r.randint(0, 255)}]
+
+
+KINDS = [(answered, 200), (small_pipe, 80), (border_diameter, 10), (any_aim, 60), (bare, 30), (top, 30), (beyond, 60),
+         (unknown_code, 40), (range_edges, 2), (out_of_range, 30), (unused_field, 40), (not_warmer, 25), (aim_edge, 50),
+         (around_zero, 60), (cold_bound, 60), (coldest_bound, 12), (row_edge, 20), (limit_edges, 2), (no_limit, 30),
+         (surface_edges, 4), (open_small, 30), (open_cylinder, 15), (open_flat, 40), (open_bare, 12), (open_top, 12),
+         (open_edge, 20), (exact_root, 5), (exact, 12), (loss_too_close, 40), (surface_too_close, 40), (several_faults, 40),
+         (random_bytes, 30)]
+
+
+def sheets():
+    """The sheets, each 24 bytes, and last a piece of 17."""
+    r = Random(8_175)
+    made = [x for maker, count in KINDS for _ in range(count) for x in maker(r)]
+    r.shuffle(made)
+    for x in made:
+        x["line"] = r.choice([r.randint(0, 65_535), r.randint(0, 65_535), r.choice(LINES)])
+    return [F, G, *map(packed, made), packed(good(r))[:17]]
+
+
+def classes(sheet):
+    """The classes of a sheet for the count."""
+    result = answer(sheet)
+    shape = "cylinder" if 256 * sheet[4] + sheet[5] <= 10_000 else "flat"
+    if isinstance(result, int):
+        return [f"refusal {result}"] + [f"refusal {result}, goal {sheet[0]}, {shape}"] * (result > 16)
+    k = 256 * result[2] + result[3]
+    bound = signed(256 * result[6] + result[7])
+    checks = ["within", "over", "close", "none"]
+    return ["answered", f"goal {sheet[0]}", f"goal {sheet[0]}, {shape}", f"service {sheet[1]}", shape,
+            f"loss {checks[result[4]]}, {shape}", f"surface {checks[result[5]]}, {shape}",
+            f"{k} mm" if k in (0, 10, 290, 300) else "20 to 280 mm",
+            f"bound {'below zero' if bound < 0 else 'zero' if bound == 0 else 'above zero'}"]
+
+
+if __name__ == "__main__":
+    pieces = sheets()
+    sys.stdout.buffer.write(b"".join(pieces))
+    counts = Counter(name for piece in pieces for name in classes(piece))
+    print(f"{len(pieces)} pieces", *(f"{name}: {counts[name]}" for name in sorted(counts)), sep="\n", file=sys.stderr)

@@ -1,0 +1,492 @@
+#!/usr/bin/env python3
+"""Named sheets with what document 01 demands of each: plain, slow and exact, sharing nothing with the crates.
+
+    python3 tools/vectors.py vectors > crates/vectors/stdin
+    python3 tools/vectors.py expected > crates/vectors/stdout
+
+A vector is a line: its name, the sheet's bytes in hexadecimal (- for none), and the answer's bytes, or refused and the number.
+Each group states what it wants of its sheets, and the script fails where tools/sheet.py gives something else. Some sheets are
+found by trying, with Python 3.11; other versions may find others.
+"""
+import re
+import sys
+from itertools import combinations
+from random import Random
+
+sys.dont_write_bytecode = True
+from near import (aimed, allowed, between, chosen, close_loss, close_surface, economy_square, edge, fields, have, layer,
+                  loss_limit, loss_need, moved, open_at, over_loss, packed, surface_need, thickness, verdict, within_loss)
+from sheet import MEETS, MISSES, OPEN, SEASONAL, YEAR_ROUND, answer, judge, ratio, root, signed, up
+
+UNUSED = dict(f=0, tau=0, P=0, S=0)
+ECONOMY = dict(goal=1, service=1, line=1, D=270, t=207, ta=70, L=333, alpha=2_048, f=7_500, tau=2_880, P=1_600, S=2_296, aim=0)
+LOSS = dict(goal=2, service=1, line=2, D=2_190, t=1_500, ta=200, L=400, alpha=1_163, **UNUSED, aim=1_000)
+SURFACE = dict(goal=3, service=1, line=3, D=1_080, t=1_500, ta=200, L=400, alpha=1_163, **UNUSED, aim=600)
+WARM = {**ECONOMY, "t": 1_500, "ta": 200}
+GOALS = [WARM, LOSS, SURFACE]
+F = dict(goal=2, service=1, line=7, D=12_000, t=1_300, ta=200, L=400, alpha=800, **UNUSED, aim=800)
+G = dict(goal=2, service=1, line=9, D=10_001, t=300, ta=200, L=400, alpha=1_163, **UNUSED, aim=1_163)
+SERVICES = {1: "year-round", 2: "seasonal"}
+SHAPES = {False: "cylinder", True: "flat"}
+CHECKS = ["within", "over", "close", "none"]
+
+# Table 4 of source document 002 as printed: pipe diameter and computed thickness, both in m.
+TABLE_4 = """
+0.027 0.01950    0.032 0.02015    0.038 0.02082    0.045 0.02148    0.057 0.02237    0.076 0.02340    0.089 0.02394
+0.108 0.02457    0.133 0.02520    0.159 0.02570    0.219 0.02648    0.273 0.02695    0.325 0.02728
+0.377 0.02753    0.426 0.02772    0.480 0.02789    0.530 0.02802    0.630 0.02822    0.730 0.02837    0.830 0.02849
+1.030 0.02866
+""".split()
+
+
+def word(number):
+    """A number as part of a name."""
+    return f"minus-{-number}" if number < 0 else str(number)
+
+
+def parts(result):
+    """The parts of an answer, each by its name."""
+    _, shape, high, low, loss, surface, *bound = result
+    return dict(shape=shape, mm=256 * high + low, loss=loss, surface=surface, bound=signed(256 * bound[0] + bound[1]))
+
+
+def diameters():
+    """01: "D 10,000 is a cylinder, 10,001 flat"."""
+    yield "diameter-10000-cylinder", {**LOSS, "D": 10_000}, dict(shape=1)
+    yield "diameter-10001-flat", {**LOSS, "D": 10_001}, dict(shape=2)
+    for x in (WARM, SURFACE):
+        yield f"diameter-10000-goal-{x['goal']}", {**x, "D": 10_000}, dict(shape=1)
+        yield f"diameter-10001-goal-{x['goal']}", {**x, "D": 10_001}, dict(shape=2)
+
+
+def economy():
+    """01: "Economy with L 333, α 2,048, f 7,500, τ 2,880, P 1,600, S 2,296, t 207, ta 70: D 270 gives 20, D 320 gives 30"."""
+    yield "economy-d-270", ECONOMY, dict(mm=20)
+    yield "economy-d-320", {**ECONOMY, "D": 320}, dict(mm=30)
+
+
+def table_4():
+    """01: "table 4 of source document 002 up to D 10,000, with the two temperatures exchanged and the printed thickness, before
+    its correction factor, taken up to the next 10 mm"."""
+    for diameter, printed in zip(TABLE_4[::2], TABLE_4[1::2]):
+        D, hundredths = 10 * int(diameter.replace(".", "")), int(printed.replace(".", ""))
+        if D <= 10_000:
+            yield f"table-4-d-{D}", {**ECONOMY, "D": D}, dict(mm=10 * up(hundredths, 1_000))
+
+
+def lengths():
+    """01: "11: length is not 24." A sheet cut, or followed by zeros."""
+    for x in GOALS:
+        for length in (0, 1, 23, 24, 25, 40):
+            yield f"length-{length}-goal-{x['goal']}", packed(x)[:length].ljust(length, b"\0"), {} if length == 24 else 11
+
+
+def codes():
+    """01: "12: goal or service code unknown"."""
+    for goal in (0, 1, 2, 3, 4, 5, 129, 130, 255):
+        x = {**(GOALS[goal - 1] if goal in (1, 2, 3) else LOSS), "goal": goal}
+        for service in (0, 1, 2, 3, 4, 129, 130, 255):
+            known = goal in (1, 2, 3) and service in (1, 2)
+            if goal in (1, 2, 3) or service in (1, 2):
+                yield f"code-goal-{goal}-service-{service}", {**x, "service": service}, {} if known else 12
+
+
+def ranges():
+    """01: "13: a field outside its range": at each end of each range one inside and one outside, where the field's 16 bits hold
+    it. A t of -500 is in its range, but no air in its own is colder: 15."""
+    common = [("D", (100, 65_535), (0, 99)), ("t", (6_500,), (6_501, 32_767, -32_768)),
+              ("ta", (-500, 500), (-501, 501, 32_767, -32_768)), ("L", (1, 2_000), (0, 2_001, 65_535)),
+              ("alpha", (100, 10_000), (0, 99, 10_001, 65_535))]
+    prices = [("f", (1, 65_535), (0,)), ("tau", (1, 8_784), (0, 8_785, 65_535)), ("P", (1, 65_535), (0,)),
+              ("S", (1, 10_000), (0, 10_001, 65_535))]
+    for x in GOALS:
+        goal = x["goal"]
+        for line in (0, 255, 256, 65_535):
+            yield f"range-line-{line}-goal-{goal}", {**x, "line": line}, {}
+        for name, inside, outside in common + (prices if goal == 1 else []):
+            for value in sorted(inside + outside):
+                y = {**x, name: value}
+                if name in ("P", "S") and value <= 1:
+                    y["f"] = 10
+                yield f"range-{name.lower()}-{word(value)}-goal-{goal}", y, {} if value in inside else 13
+        yield f"range-t-minus-501-goal-{goal}", {**x, "t": -501, "ta": -500}, 13
+        yield f"range-t-minus-500-goal-{goal}", {**x, "t": -500, "ta": -500}, 15
+
+
+def single_bytes():
+    """01: "All files are big-endian": each field by its low byte alone, 255, and by its high byte alone, 256 and 512."""
+    for x in GOALS:
+        names = ["D", "L", "alpha"] + (["f", "tau", "P", "S"] if x["goal"] == 1 else ["aim"])
+        for name in names:
+            for value in (255, 256, 512):
+                y = {**x, name: value, **(dict(f=100) if name in ("P", "S") else {})}
+                yield f"bytes-{name.lower()}-{value}-goal-{x['goal']}", y, {}
+        for t, ta in ((256, 255), (257, 256), (512, 256), (511, 255), (0, -256), (1, -255), (-254, -256), (-255, -257)):
+            fit = {1: {}, 2: dict(aim=50), 3: dict(aim=(t + ta) // 2)}[x["goal"]]
+            wanted = 16 if x["goal"] == 3 and t - ta == 1 else {}
+            yield f"bytes-t-{word(t)}-ta-{word(ta)}-goal-{x['goal']}", {**x, "t": t, "ta": ta, **fit}, wanted
+
+
+def unused():
+    """01: "14: an unused field not zero, or goal 1 with an aim not zero"."""
+    for x in (LOSS, SURFACE):
+        yield f"unused-all-zero-goal-{x['goal']}", x, {}
+        for name in UNUSED:
+            for value in (1, 256, 65_535):
+                yield f"unused-{name.lower()}-{value}-goal-{x['goal']}", {**x, name: value}, 14
+    for aim in (0, 1, 256, 32_768, 65_535):
+        yield f"unused-aim-{aim}-goal-1", {**WARM, "aim": aim}, 14 if aim else {}
+
+
+def warmer():
+    """01: "15: t not above ta." Under goal 3 no aim lies between temperatures a tenth apart: 16 then."""
+    for x in GOALS:
+        for ta in (-300, -1, 0, 200):
+            for by in (-1, 0, 1, 2):
+                fit = {1: {}, 2: dict(aim=10), 3: dict(aim=ta + 1)}[x["goal"]]
+                wanted = 15 if by <= 0 else 16 if by == 1 and x["goal"] == 3 else {}
+                yield f"t-{word(ta + by)}-air-{word(ta)}-goal-{x['goal']}", {**x, "t": ta + by, "ta": ta, **fit}, wanted
+
+
+def aims():
+    """01: "16: goal 2 with aim 0; goal 3 unless ta < aim < t"; and a loss aim is unsigned."""
+    thin = {**LOSS, "L": 1, "t": 230}
+    for aim in (0, 1, 2, 32_767, 32_768, 65_535):
+        yield f"aim-{aim}-goal-2", {**thin, "aim": aim}, {} if aim else 16
+    for aim in (32_767, 32_768, 40_000, 65_535):
+        yield f"aim-{aim}-hot-goal-2", {**LOSS, "t": 6_500, "L": 2_000, "aim": aim}, dict(mm=10 if aim == 65_535 else 20)
+    for t, ta in ((220, 200), (-280, -300), (10, -10), (0, -20), (20, 0), (-1, -21), (21, 1)):
+        for aim in sorted({ta - 1, ta, ta + 1, -1, 0, 1, t - 1, t, t + 1, 32_767, -32_768}):
+            name = f"aim-{word(aim)}-t-{word(t)}-ta-{word(ta)}-goal-3"
+            yield name, {**SURFACE, "t": t, "ta": ta, "aim": aim}, {} if ta < aim < t else 16
+
+
+def around_zero():
+    """01: "t, ta and a surface aim are signed 16-bit two's complement": each at and around zero, and at the lower end."""
+    pairs = [(v + by, v) for v in (-500, -2, -1, 0, 1, 2) for by in (2, 300)]
+    pairs += [(v, v - by) for v in (-498, -2, -1, 0, 1, 2) for by in (2, 300) if v - by >= -500]
+    for x in GOALS:
+        for t, ta in sorted(set(pairs)):
+            fit = {1: dict(f=50_000), 2: dict(aim=10 if t - ta == 2 else 100), 3: dict(aim=ta + up(t - ta, 3))}[x["goal"]]
+            yield f"zero-t-{word(t)}-ta-{word(ta)}-goal-{x['goal']}", {**x, "t": t, "ta": ta, **fit}, {}
+    for flat in (False, True):
+        for aim in (-10, -2, -1, 0, 1, 2, 10):
+            x = {**SURFACE, "t": 400, "ta": -20, "aim": aim, "D": 20_000 if flat else 570}
+            yield f"zero-aim-{word(aim)}-{SHAPES[flat]}", x, {}
+
+
+def bounds():
+    """01: "Bytes 6–7: surface bound in 0.1 °C, signed": both temperatures moved until the bound is the one named."""
+    for flat in (False, True):
+        for delta, aim in ((40, 10), (600, 600)):
+            x = {**LOSS, "D": 20_000 if flat else 1_590, "t": delta, "ta": 0, "aim": aim}
+            rise = parts(answer(packed(x)))["bound"]
+            for bound in (-499, -257, -256, -255, -100, -11, -10, -9, -5, -1, 0, 1, 5, 9, 10, 255, 256, 500):
+                ta = bound - rise
+                if -500 <= ta <= 500:
+                    name = f"bound-{word(bound)}-ta-{word(ta)}-{SHAPES[flat]}"
+                    yield name, {**x, "t": ta + delta, "ta": ta}, dict(bound=bound)
+
+
+def two_cases():
+    """01: "Tests run in this order": two cases or more hold at once, and the first one decides.
+
+    15 goes with neither 17 nor 18: where t is not above ta, need is not above zero and bare pipe meets it."""
+    for x in GOALS:
+        cases = {12: dict(service=3), 13: dict(alpha=99), 14: dict(aim=1) if x["goal"] == 1 else dict(tau=1), 15: dict(t=200)}
+        if x["goal"] != 1:
+            cases[16] = dict(aim=0 if x["goal"] == 2 else 200)
+        for first, second in combinations(cases, 2):
+            y = {**x, **cases[first], **cases[second]}
+            yield f"cases-{first}-and-{second}-goal-{x['goal']}", y, first
+        for second in cases:
+            yield f"cases-11-and-{second}-goal-{x['goal']}", packed({**x, **cases[second]})[:23], 11
+        worst = {name: value for second in cases for name, value in cases[second].items()}
+        yield f"cases-11-to-{max(cases)}-goal-{x['goal']}", packed({**x, **worst}) + b"\0", 11
+        for first in range(12, max(cases) - 1):
+            worst = {name: value for second in cases if second >= first for name, value in cases[second].items()}
+            yield f"cases-{first}-to-{max(cases)}-goal-{x['goal']}", {**x, **worst}, first
+
+    # Every rung misses at a loss of 0.1 W/m² or a surface 0.1 °C above the air, and at none above it all the more.
+    far = {**LOSS, "D": 20_000, "t": 6_500, "L": 2_000, "aim": 1}
+    hot = {**far, "goal": 3, "alpha": 100, "aim": 201}
+    # The need is what bare wall provides, whatever L is, and no whole number of nanometres: rung 0 is open.
+    for name, x, last in (("loss", far, 17), ("surface", hot, 17), ("loss", G, 18)):
+        yield f"case-{last}-{name}", x, last
+        yield f"cases-11-and-{last}-{name}", packed(x) + b"\0", 11
+        yield f"cases-12-and-{last}-{name}", {**x, "service": 3}, 12
+        yield f"cases-13-and-{last}-{name}", {**x, "L": 2_001}, 13
+        yield f"cases-14-and-{last}-{name}", {**x, "S": 1}, 14
+    yield "cases-16-and-17-loss", {**far, "aim": 0}, 16
+    yield "cases-16-and-17-surface", {**hot, "aim": 200}, 16
+    yield "cases-16-and-18-surface", {**G, "goal": 3, "aim": 300}, 16
+    yield "case-15-beyond-if-read-unsigned", {**far, "t": -1, "ta": 0}, 15
+
+    # 17 and 18 never hold at once: 18 needs a rung that doesn't miss. The nearest to both: all rungs miss but the last, which is
+    # open; and the nearest sheet of more need, where the last one misses too.
+    r = Random(17)
+    for flat in (False, True):
+        for goal in (1, 2, 3):
+            x = open_at(r, goal, flat, 300)
+            yield f"last-rung-open-goal-{goal}-{SHAPES[flat]}", x, 18
+            yield f"last-rung-missed-goal-{goal}-{SHAPES[flat]}", beside(x, 300, MISSES), 17
+
+
+def beside(x, k, wanted):
+    """The nearest sheet for which k mm meet, or miss, as wanted: by heat price or aim. None where that isn't allowed."""
+    step = (1 if wanted == MISSES else -1) * (1 if x["goal"] == 1 else -1)
+    while allowed(x) and verdict(x, k) != wanted:
+        x = moved(x, step)
+    return x if allowed(x) else None
+
+
+def rows():
+    """01: "The row is the highest one not above t. Below 50.0, or seasonal from 450.0, none is printed."
+
+    A wall that loses more than the row below allows, and less than the row itself: at t - 1 it is over, from t on within."""
+    for service, column in ((1, YEAR_ROUND), (2, SEASONAL)):
+        for row in range(13):
+            t = 500 * (row + 1)
+            below = 10 * column[row - 1] if 1 <= row <= len(column) else None
+            limit = 10 * column[row] if row < len(column) else None
+            loss = (below + limit) // 2 if below and limit else (limit or below or 3_000) * 9 // 10
+            x = {**LOSS, "service": service, "D": 20_000, "t": t, "aim": (loss + limit) // 2 if below and limit else loss + 20}
+            x = next(y for y in walls(x, loss) if 300 <= y["L"] <= 700)
+            for at in (t - 1, t, t + 1):
+                printed = limit if at >= t else below
+                check = 3 if printed is None else 1 if at < t and limit else 0
+                if at <= 6_500:
+                    yield f"row-t-{at}-{SERVICES[service]}", {**x, "t": at}, dict(loss=check)
+    for t, ta in ((-1, -200), (0, -200), (1, -200), (-400, -500)):
+        for service in SERVICES:
+            yield f"row-t-{word(t)}-{SERVICES[service]}", {**LOSS, "service": service, "t": t, "ta": ta}, dict(loss=3)
+
+
+def walls(x, loss):
+    """The flat wall x with the conductivity that makes k mm lose that much, for each k."""
+    for k in range(10, 301, 10):
+        yield {**x, "L": loss * k * 10**6 * x["alpha"] // ((x["t"] - x["ta"]) * 10**5 * x["alpha"] - loss * 10**7)}
+
+
+def limits():
+    """01: "Limits in W/m² by t in °C (001, table 5.1.1), year-round / seasonal: 50: 58/116; ..." For each limit a sheet that is
+    within it, and would not be 1 W/m² lower, and one that is over it, and would not be 1 W/m² higher; at both ends of its row."""
+    r = Random(511)
+    for service, column in ((1, YEAR_ROUND), (2, SEASONAL)):
+        for row, limit in enumerate(column):
+            for t, flat in ((500 * (row + 1), True), (500 * (row + 1) + 499, False)):
+                if t <= 6_500:
+                    end = f"{limit}-t-{t}-{SERVICES[service]}"
+                    yield f"limit-within-{end}", within_loss(r, 2, flat, 40, service=service, t=t), dict(loss=0)
+                    yield f"limit-over-{end}", over_loss(r, 2, flat, 40, service=service, t=t), dict(loss=1)
+
+
+def surface_limits():
+    """01: "A t at or below the surface limit is within." "Surface limit: 50.0 °C for ta up to 27.0, else ta + 25.0." All bare."""
+    for flat in (False, True):
+        for ta, limit in ((-500, 500), (0, 500), (269, 500), (270, 500), (271, 521), (272, 522), (500, 750)):
+            for t in sorted({limit - 1, limit, limit + 1, 521}):
+                if t > ta:
+                    x = {**LOSS, "D": 20_000 if flat else 890, "t": t, "ta": ta, "aim": 65_535}
+                    yield f"surface-limit-ta-{word(ta)}-t-{t}-{SHAPES[flat]}", x, dict(mm=0, surface=int(t > limit))
+
+
+def checks():
+    """01: "Byte 4, loss check: 0 within, 1 over, 2 too close, 3 none printed. Byte 5, surface check: 0, 1, 2 likewise"."""
+    r = Random(5_072)
+    for flat in (False, True):
+        for goal in (1, 2, 3):
+            end = f"goal-{goal}-{SHAPES[flat]}"
+            for check in (0, 1, 3):
+                yield f"loss-{CHECKS[check]}-{end}", checked(r, goal, flat, loss=check), dict(loss=check)
+            for check in (0, 1):
+                x = checked(r, goal, flat, surface=check, hot=True)
+                yield f"surface-{CHECKS[check]}-{end}", x, dict(surface=check)
+            for k in (10, 50, 100):
+                yield f"loss-close-{k}-mm-{end}", close_loss(r, goal, flat, k), dict(mm=k, loss=2)
+                yield f"surface-close-{k}-mm-{end}", close_surface(r, goal, flat, k), dict(mm=k, surface=2)
+        yield f"loss-close-0-mm-{SHAPES[flat]}", close_loss(r, 2, flat, 0), dict(mm=0, loss=2)
+        k = 300 if flat else 200
+        yield f"loss-close-{k}-mm-{SHAPES[flat]}", close_loss(r, 2, flat, k), dict(mm=k, loss=2)
+        yield f"surface-close-{k}-mm-{SHAPES[flat]}", close_surface(r, 2, flat, k), dict(mm=k, surface=2)
+    bare = {**WARM, "D": 20_000, "t": 501, "ta": -500, "L": 1, "alpha": 9_999, "f": 1, "tau": 1}
+    yield "surface-close-0-mm-flat", bare, dict(mm=0, surface=2)
+    both = {**LOSS, "D": 20_000, "t": 790, "ta": 250, "L": 400, "alpha": 232, "aim": 581}
+    yield "both-close-flat", both, dict(mm=20, loss=2, surface=2)
+    yield "both-close-cylinder", both_close(r), dict(loss=2, surface=2)
+    for loss, surface in ((0, 0), (0, 1), (1, 0), (1, 1)):
+        for flat in (False, True):
+            x = checked(r, 2, flat, loss=loss, surface=surface, hot=True)
+            yield f"loss-{CHECKS[loss]}-surface-{CHECKS[surface]}-{SHAPES[flat]}", x, dict(loss=loss, surface=surface)
+
+
+def checked(r, goal, flat, hot=False, **wanted):
+    """A sheet of up to 100 mm whose checks come out as wanted; a hot one is above the surface limit."""
+    while True:
+        x = between(r, fields(r, goal, flat), 10 * r.randint(1, 10))
+        if x and not (hot and x["t"] <= 750) and wanted.items() <= parts(answer(packed(x))).items():
+            return x
+
+
+def both_close(r):
+    """A small pipe for which both checks are too close: the two limits allow the same loss, and the conductivity is fitted."""
+    while True:
+        x, k = {**fields(r, 2, False), "D": r.randint(100, 150), "t": r.randint(510, 2_000)}, 10 * r.randint(1, 5)
+        limit = loss_limit(x)
+        rise = r.choice([s for s in range(230, 1_001) if 100 * limit % s == 0 and s <= limit])
+        x.update(ta=500 - rise, alpha=100 * limit // rise)
+        n, d = loss_need({**x, "L": 1}, limit)
+        x["L"] = up(layer(x, k)[0] * d * x["alpha"], n * x["alpha"] - 2 * 10**7 * d)
+        if 1 <= x["L"] <= 2_000:
+            needs = ratio(*loss_need(x, limit)), ratio(*surface_need(x, 500))
+            y = between(r, x, k) if all(judge(have(x, k), required) == OPEN for required in needs) else None
+            if y:
+                return y
+
+
+def rungs():
+    """01: "The first rung that doesn't miss is the thickness if it meets." "17: all 31 rungs miss." Rungs by name, the last sheet
+    that 300 mm meet, and the first that they miss. Under goal 3 bare pipe never meets, since the aim is below t."""
+    r = Random(31)
+    for flat in (False, True):
+        for goal in (1, 2, 3):
+            for k in (0, 10, 20, 150, 280, 290, 300):
+                if goal != 3 or k > 0:
+                    yield f"thickness-{k}-goal-{goal}-{SHAPES[flat]}", chosen(r, goal, flat, k), dict(mm=k)
+            x = chosen(r, goal, flat, 300)
+            yield f"thickness-300-last-goal-{goal}-{SHAPES[flat]}", beside(aimed(x, have(x, 300)[0]), 300, MEETS), dict(mm=300)
+            yield f"beyond-goal-{goal}-{SHAPES[flat]}", beside(aimed(x, have(x, 300)[0]), 300, MISSES), 17
+
+
+def open_rungs():
+    """01: "18: the first rung that doesn't miss is open." With the nearest sheets of less need, which that rung meets, and of
+    more, which it misses. The rung above an open one meets, so that "jumping an open one below it" would give an answer."""
+    r = Random(18)
+    widths = {"small-cylinder": dict(D=150), "cylinder": dict(D=2_730), "wide-cylinder": dict(D=9_999), "flat": dict(D=10_001)}
+    for width, fixed in widths.items():
+        for goal in (1, 2, 3):
+            for place, k in (("first", 0), ("second", 10), ("middle", 120), ("last", 300)):
+                x = open_at(r, goal, width == "flat", k, **fixed)
+                assert k == 300 or verdict(x, k + 10) == MEETS
+                name = f"{place}-goal-{goal}-{width}"
+                yield f"open-{name}", x, 18
+                less, more = beside(x, k, MEETS), beside(x, k, MISSES)
+                if less:
+                    yield f"open-less-{name}", less, ordinary(less)
+                if more:
+                    yield f"open-more-{name}", more, ordinary(more)
+
+
+def edges():
+    """01: "A rung meets if under-have is at or above high need. It misses if over-have is below low need. Otherwise it is open."
+    High need equal to under-have and 1 nm above it; low need equal to over-have and 1 nm above it."""
+    r = Random(12)
+    for width, D in (("small-cylinder", 150), ("cylinder", 2_730), ("wide-cylinder", 9_999), ("flat", 10_001)):
+        for goal in (1, 2):
+            for k in (0, 10, 120, 300):
+                end = f"{k}-mm-goal-{goal}-{width}"
+                yield f"edge-meets-{end}", edge(r, goal, width == "flat", k, 0, 0, D=D), dict(mm=k)
+                yield f"edge-first-open-{end}", edge(r, goal, width == "flat", k, 0, 1, D=D), 18
+                yield f"edge-last-open-{end}", edge(r, goal, width == "flat", k, 1, 0, D=D), 18
+                yield f"edge-misses-{end}", edge(r, goal, width == "flat", k, 1, 1, D=D), 17 if k == 300 else dict(mm=k + 10)
+
+
+def ordinary(x):
+    """What is wanted of a sheet beside another one: its thickness, or refusal 17 or 18."""
+    found = thickness(x)
+    return 17 if found is None else dict(mm=found[0]) if found[1] == MEETS else 18
+
+
+def equal():
+    """01: "A rung meets if under-have is at or above high need": they are equal; and the next sheet of more need."""
+    pipe, wall = {**WARM, "alpha": 10_000}, {**WARM, "alpha": 10_000, "D": 20_000}
+    sheets = [
+        ("goal-1-cylinder", 0, {**pipe, "L": 759, "f": 16, "tau": 100, "t": 300, "P": 759, "S": 1_000}),
+        ("goal-1-flat", 0, {**wall, "L": 1_897, "f": 1_000, "tau": 2_000, "t": 201, "P": 1_897, "S": 2_000}),
+        ("goal-1-flat", 30, {**wall, "L": 352, "f": 1_000, "tau": 1_600, "t": 1_200, "P": 1_100, "S": 2_000}),
+        ("goal-2-cylinder", 0, {**LOSS, "t": 300, "alpha": 800, "aim": 800}),
+        ("goal-2-flat", 0, {**F, "t": 300}),
+        ("goal-2-flat", 50, F),
+        ("goal-3-flat", 50, {**F, "goal": 3, "aim": 300}),
+    ]
+    for name, k, x in sheets:
+        assert have(x, k)[0] == have(x, k)[1] and verdict(x, k) == MEETS and verdict(beside(x, k, MISSES), k) == MISSES
+        more = moved(x, 1 if x["goal"] == 1 else -1)
+        yield f"equal-{name}-{k}-mm", x, dict(mm=k)
+        yield f"equal-{name}-{k}-mm-more", more, ordinary(more)
+
+
+def wrong_turns():
+    """01: "Halving 3.795 for the flat wall: the standard prints 1.897." "Keeping the product below the root in 64 bits: it can
+    need 87." Sheet G shows the one about rounding, and the groups above the ones about the ladder."""
+    r = Random(87)
+    for k in (20, 100, 300):
+        x = chosen(r, 1, True, k)
+        x = beside(aimed(x, have(x, k)[0]), k, MEETS)
+        n, d = economy_square(x)
+        assert root(n * x["f"] * 18_975**2, d * 18_970**2)[0] > have(x, k)[1]
+        yield f"flat-coefficient-{k}-mm", x, dict(mm=k)
+    most = dict(t=6_500, ta=-500, L=2_000, f=65_535, tau=8_784)
+    for name, D in (("cylinder", 10_000), ("small-cylinder", 100), ("flat", 10_001)):
+        x = {**WARM, **most, "D": D}
+        yield f"product-largest-{name}", {**x, "P": 1, "S": 1}, 17
+        yield f"product-large-{name}", {**x, "P": 65_535, "S": 10_000}, {}
+        yield f"product-least-{name}", {**WARM, "D": D, "t": 201, "L": 1, "f": 1, "tau": 1, "P": 65_535, "S": 10_000}, dict(mm=0)
+
+
+def held():
+    """01: "Surface bound: ... rounded up, ... and never above t." On bare pipe it would be t + 1 where have is rounded down."""
+    for flat in (False, True):
+        for t, ta in ((300, 200), (1_500, 200), (0, -100), (-1, -300), (1, -1)):
+            for alpha, name in ((1_163, "held"), (1_000, "exact")):
+                x = {**LOSS, "D": 30_000 if flat else 1_080, "t": t, "ta": ta, "alpha": alpha, "aim": 65_535}
+                n = 10**7 * x["L"] * (1 if flat else 2)
+                assert (ta + up(n * (t - ta), alpha * (n // alpha)) > t) == (name == "held")
+                yield f"bound-{name}-t-{word(t)}-ta-{word(ta)}-{SHAPES[flat]}", x, dict(mm=0, bound=t)
+
+
+def worked():
+    """01: "P4: ... so 50. P5: aim 799: ... so 60. P6: aim 145: 300. P7: aim 144: refusal 17. P8: sheet G: ... refusal 18. P9:
+    goal 3, aim = t: 16"."""
+    yield "worked-p4", F, dict(mm=50, loss=0, surface=0, bound=300)
+    yield "worked-p5", {**F, "aim": 799}, dict(mm=60)
+    yield "worked-p6", {**F, "aim": 145}, dict(mm=300)
+    yield "worked-p7", {**F, "aim": 144}, 17
+    yield "worked-p8", G, 18
+    yield "worked-p9", {**F, "goal": 3, "aim": F["t"]}, 16
+
+
+GROUPS = [diameters, economy, table_4, lengths, codes, ranges, single_bytes, unused, warmer, aims, around_zero, bounds, two_cases,
+          rows, limits, surface_limits, checks, rungs, open_rungs, edges, equal, wrong_turns, held, worked]
+
+
+def vectors():
+    """The vectors as triples: the name, the bytes, and the answer or the refusal's number."""
+    names = set()
+    for group in GROUPS:
+        for name, x, wanted in group():
+            sheet = packed(x) if isinstance(x, dict) else x
+            result = answer(sheet)
+            assert re.fullmatch("[a-z0-9]+(-[a-z0-9]+)*", name) and len(name) <= 60 and name not in names, name
+            if isinstance(wanted, int):
+                assert result == wanted, (name, result, wanted)
+            else:
+                assert not isinstance(result, int) and wanted.items() <= parts(result).items(), (name, result, wanted)
+            names.add(name)
+            yield name, sheet, result
+
+
+def main():
+    """Prints the vectors, or what the program must print on them."""
+    if sys.argv[1:] == ["vectors"]:
+        for name, sheet, result in vectors():
+            print(name, sheet.hex() or "-", f"refused {result}" if isinstance(result, int) else bytes(result).hex())
+    elif sys.argv[1:] == ["expected"]:
+        names = [name for name, _, _ in vectors()]
+        print(*(f"{name} ok" for name in names), f"{len(names)} vectors, 0 failed", sep="\n")
+    else:
+        sys.exit(__doc__.strip())
+
+
+if __name__ == "__main__":
+    main()
