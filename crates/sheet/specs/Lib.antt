@@ -5,7 +5,6 @@ pub mod Search
 pub mod Limits
 pub mod Answer
 pub mod Refusals
-pub mod Outcome
 pub mod Admitted
 pub mod Demands
 pub mod Worked

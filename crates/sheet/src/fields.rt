@@ -24,7 +24,7 @@ pub struct Sheet {
 }
 
 impl Sheet {
-    pub(crate) fn decode(bytes: &[u8]) -> Sheet
+    pub fn decode(bytes: &[u8]) -> Sheet
         requires { ⌜ length (now bytes) ≡ 24 ⌝ }
         ensures { λ r. ⌜ r ≡ decoded (now (bytes .entry)) ⌝ }
     {

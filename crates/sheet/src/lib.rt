@@ -1,11 +1,8 @@
-// A sheet and its answer.
-mod checks;
+// The meaning of a sheet, and the parts of its answer.
 mod encoding;
 mod fields;
 mod limits;
-mod outcome;
 mod ranges;
-mod requirement;
 
 pub use encoding::Answer;
 pub use encoding::LossCheck;
@@ -13,5 +10,5 @@ pub use fields::Sheet;
 pub use fields::ZERO;
 pub use fields::signed;
 pub use fields::unsigned;
-pub use outcome::Outcome;
-pub use outcome::work_out;
+pub use limits::loss_limit;
+pub use limits::surface_limit;

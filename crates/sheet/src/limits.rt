@@ -24,7 +24,7 @@ const LIMITS: [[u64; 2]; 13] = [
 ];
 
 // The limit of heat loss in 0.1 W/m² for a service and a pipe's temperature, counted from −3,276.8 °C, or 0 where none is printed.
-pub(crate) fn loss_limit(service: u64, temperature: u64) -> u64
+pub fn loss_limit(service: u64, temperature: u64) -> u64
     requires { ⌜ (1 ≤ service) × (service ≤ 2) × (temperature ≤ zeroDegrees + 6_500) ⌝ }
     ensures { λ r. ⌜ r ≡ lossLimit service temperature ⌝ }
 {
@@ -44,7 +44,7 @@ fn printed(row: u64, service: u64) -> u64
 }
 
 // The limit of the surface's temperature where the air has the temperature ambient, both counted from −3,276.8 °C.
-pub(crate) fn surface_limit(ambient: u64) -> u64
+pub fn surface_limit(ambient: u64) -> u64
     requires { ⌜ ambient ≤ 65_535 ⌝ }
     ensures { λ r. ⌜ r ≡ surfaceLimit ambient ⌝ }
 {

@@ -11,14 +11,14 @@ use crate::fields::offset_binary;
 
 impl Sheet {
     // Is the goal or the service unknown?
-    pub(crate) fn code_unknown(self) -> bool
+    pub fn code_unknown(self) -> bool
         ensures { λ r. ⌜ r ≡ anyOutside (codes self) ⌝ }
     {
         outside(self.goal, 1, 3) | outside(self.service, 1, 2)
     }
 
     // Is a field outside its range?
-    pub(crate) fn out_of_range(self) -> bool
+    pub fn out_of_range(self) -> bool
         ensures { λ r. ⌜ r ≡ anyOutside (ranges self) ⌝ }
     {
         let economy = (self.goal == 1) & self.economy_out_of_range();
@@ -40,7 +40,7 @@ impl Sheet {
     }
 
     // Is a field that the goal does not use other than zero?
-    pub(crate) fn not_zero(self) -> bool
+    pub fn not_zero(self) -> bool
         ensures { λ r. ⌜ r ≡ anyOutside (mustBeZero self) ⌝ }
     {
         if self.goal == 1 {
@@ -52,14 +52,14 @@ impl Sheet {
     }
 
     // The surface aim, counted from −3,276.8 °C.
-    pub(crate) fn surface_aim(self) -> u64
+    pub fn surface_aim(self) -> u64
         ensures { λ r. ⌜ r ≡ surfaceAim self ⌝ }
     {
         offset_binary(self.aim)
     }
 
     // Can no insulation reach the aim?
-    pub(crate) fn aim_out_of_reach(self) -> bool
+    pub fn aim_out_of_reach(self) -> bool
         ensures { λ r. ⌜ r ≡ aimRefused self (goalOf self) ⌝ }
     {
         if self.goal == 1 {

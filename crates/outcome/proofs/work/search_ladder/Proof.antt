@@ -6,30 +6,30 @@ use Rattle.balance.specs.declared.provision.Provision.{Provision}
 use Rattle.balance.specs.Choice.{searched}
 use Rattle.balance.specs.Prepared.{provision}
 use Rattle.balance.proofs.Choices.{Told, told}
 use Rattle.sheet.specs.Sheet.{goalOf}
 use Rattle.sheet.specs.Search.{requiredOf, chosen}
 use Rattle.sheet.specs.Answer.{encoded, answerOf}
 use Rattle.sheet.proofs.Ladder.{all-insufficient}
 use borrow.Author.Needs.{needs}
-use Rattle.sheet.proofs.outcome.search_ladder.Statement.{statement}
-use Rattle.sheet.proofs.outcome.search_ladder.Tie as tie
+use Rattle.outcome.proofs.work.search_ladder.Statement.{statement}
+use Rattle.outcome.proofs.work.search_ladder.Tie as tie
 
 -- what is required, and what the search told
 found :
     (c : tie.After-search) → let s = c .before .before .before .before .args .sheet in
-    (c .before .before .required .result ≡ requiredOf s (goalOf s)) × Told (s .line) (requiredOf s (goalOf s)) (c .search .result)
+    (c .before .before .required-by .result ≡ requiredOf s (goalOf s)) × Told (s .line) (requiredOf s (goalOf s)) (c .search .result)
 unfolding provision
 found c =
     let s = c .before .before .before .before .args .sheet in
-    let required = c .before .before .required .ensures ∙ ap (requiredOf s) (c .before .before .before .goal .ensures) in
-    let is = c .search .ensures ∙ ap (λ (p : Provision). searched (p .line) (c .before .before .required .result)) (c .before .of .ensures) ∙ ap (searched (s .line)) required in
+    let required = c .before .before .required-by .ensures ∙ ap (requiredOf s) (c .before .before .before .goal-of .ensures) in
+    let is = c .search .ensures ∙ ap (λ (p : Provision). searched (p .line) (c .before .before .required-by .result)) (c .before .of .ensures) ∙ ap (searched (s .line)) required in
     (required, rw is (told (s .line) (requiredOf s (goalOf s))))
 
-goal-requires : tie.Need-goal-requires
-goal-requires c κs = search needs
+goal-of-requires : tie.Need-goal-of-requires
+goal-of-requires c κs = search needs
 
-required-requires : tie.Need-required-requires
-required-requires c κs = (c .before .pre, rw (c .goal .ensures) (c .before .pre .goal))
+required-by-requires : tie.Need-required-by-requires
+required-by-requires c κs = (c .before .pre, rw (c .goal-of .ensures) (c .before .pre .goal))
 
 of-requires : tie.Need-of-requires
 of-requires c κs = search needs
@@ -62,8 +62,8 @@ pub search-ladder-spec : {M : Type 1} → statement M
 search-ladder-spec =
     tie.close
     (tie.spec
-    goal-requires
-    required-requires
+    goal-of-requires
+    required-by-requires
     of-requires
     search-requires
     enum-told

@@ -6,13 +6,13 @@ use Rattle.refusals.specs.Response.{complete}
 use Rattle.quadrature.specs.Ladder.{thicknessAt}
 use Rattle.balance.specs.Provided.{provided}
 use Rattle.balance.specs.Verdict.{judged, isUndecided}
 use Rattle.sheet.specs.declared.encoding.Answer.{Answer}
 use Rattle.sheet.specs.Search.{verdicts, chosen}
 use Rattle.sheet.specs.Answer.{encoded, answerOf}
 use Rattle.sheet.proofs.Ladder.{first-undecided, first-decided}
 use borrow.Author.Needs.{needs}
-use Rattle.sheet.proofs.outcome.judge_rung.Statement.{statement}
-use Rattle.sheet.proofs.outcome.judge_rung.Tie as tie
+use Rattle.outcome.proofs.work.judge_rung.Statement.{statement}
+use Rattle.outcome.proofs.work.judge_rung.Tie as tie
 
 -- the test of case 18
 verdict : (c : tie.After-is-undecided) → let s = c .before .before .args .sheet in c .is-undecided .result ≡ isUndecided (verdicts s (chosen s))

@@ -1,4 +1,4 @@
--- `Sheet::surface_bound` meets its contract.
+-- `surface_bound` meets its contract.
 -- Assumes nothing.
 use mathlib.Core.Path.{_≡_, ap, _∙_}
 use Prim.Native.Nat.{ℕ, _*_, _≤_}
@@ -8,21 +8,21 @@ use Rattle.fractions.specs.Rounding.{ceiling}
 use Rattle.fractions.proofs.Sides.{upper-of}
 use Rattle.balance.specs.Provided.{film}
 use Rattle.balance.specs.Required.{requirement, enclosing}
 use Rattle.sheet.specs.Sheet.{difference}
 use Rattle.sheet.specs.Answer.{surfaceBound}
 use borrow.Author.Needs.{needs}
-use Rattle.sheet.proofs.fields.Sheet.surface_bound.Statement.{statement}
-use Rattle.sheet.proofs.fields.Sheet.surface_bound.Tie as tie
+use Rattle.outcome.proofs.checks.surface_bound.Statement.{statement}
+use Rattle.outcome.proofs.checks.surface_bound.Tie as tie
 
 -- the rise, by the film
-rise-is : (c : tie.After-required) → let a = c .before .args in c .required .result .upper ≡ ceiling ((film (a .self .line) .num * difference (a .self)) over (film (a .self .line) .den * a .provided .lower))
+rise-is : (c : tie.After-required-by) → let a = c .before .args in c .required-by .result .upper ≡ ceiling ((film (a .sheet .line) .num * difference (a .sheet)) over (film (a .sheet .line) .den * a .provided .lower))
 unfolding requirement enclosing film
 rise-is c =
     let a = c .before .args in
-    upper-of (c .required .ensures) ∙ ap (λ (n : ℕ). ceiling (n over (a .self .line .coefficient * a .provided .lower))) (omega arith)
+    upper-of (c .required-by .ensures) ∙ ap (λ (n : ℕ). ceiling (n over (a .sheet .line .coefficient * a .provided .lower))) (omega arith)
 
-required-requires : tie.Need-required-requires
-required-requires c κs = search needs
+required-by-requires : tie.Need-required-by-requires
+required-by-requires c κs = search needs
 
 sub-if1 : tie.Need-sub-if1
 sub-if1 c = search needs
@@ -47,4 +47,4 @@ returns-2 c = omega (arith, c .before .if1 .left, rise-is (c .before .before .be
 pub surface-bound-spec : {M : Type 1} → statement M
 surface-bound-spec =
     tie.close
-    (tie.spec required-requires sub-if1 cast-result returns add-result cast-result-2 returns-2)
+    (tie.spec required-by-requires sub-if1 cast-result returns add-result cast-result-2 returns-2)

@@ -2,9 +2,9 @@
 -- Assumes nothing.
 use Rattle.refusals.specs.Numbers.{numberOf}
 use Rattle.refusals.specs.Response.{Response, refused, complete}
-use Rattle.sheet.specs.declared.outcome.Outcome.{Outcome}
-use Rattle.sheet.specs.declared.outcome.Outcome.the-variants.{Refused, Answered}
+use Rattle.outcome.specs.declared.work.Outcome.{Outcome}
+use Rattle.outcome.specs.declared.work.Outcome.the-variants.{Refused, Answered}
 use Rattle.sheet.specs.Answer.{encoded}
 
 abbrev pub response : Outcome → Response
 response (Refused why) = refused (numberOf why)

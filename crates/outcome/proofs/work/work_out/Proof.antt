@@ -11,15 +11,15 @@ use denote.Ref.{now}
 use Rattle.refusals.specs.Cases.{Case, case, NoneHolds}
 use Rattle.refusals.specs.Response.{refused, respond}
 use Rattle.refusals.proofs.Response.{here, later}
 use Rattle.sheet.specs.declared.fields.Sheet.{Sheet}
 use Rattle.sheet.specs.Sheet.{decoded, goalOf}
 use Rattle.sheet.specs.Ranges.{anyOutside, codes, ranges, mustBeZero}
 use Rattle.sheet.specs.Answer.{answer}
 use Rattle.sheet.specs.Refusals.{aimRefused, fieldCases, ladderCases, cases, responseTo}
 use Rattle.sheet.proofs.Admitted.{admitted}
 use borrow.Author.Needs.{needs}
-use Rattle.sheet.proofs.outcome.work_out.Statement.{statement}
-use Rattle.sheet.proofs.outcome.work_out.Tie as tie
+use Rattle.outcome.proofs.work.work_out.Statement.{statement}
+use Rattle.outcome.proofs.work.work_out.Tie as tie
 
 -- what each test tells of the sheet's bytes
 module _ (c : tie.After-aim-out-of-reach) where

@@ -4,20 +4,25 @@ ghost use Prim.Native.Nat.{_<_};
 ghost use Rattle.quadrature.specs.Ladder.{rungs, thicknessAt};
 ghost use Rattle.refusals.specs.Response.{respond};
 ghost use Rattle.balance.specs.Provided.{provided as Provided·provided};
 ghost use Rattle.sheet.specs.Sheet.{goalOf};
 ghost use Rattle.sheet.specs.Search.{requiredOf, chosen};
 ghost use Rattle.sheet.specs.Answer.{encoded, answerOf};
 ghost use Rattle.sheet.specs.Refusals.{ladderCases, responseTo};
-ghost use Rattle.sheet.specs.Outcome.{response};
+ghost use Rattle.outcome.specs.Outcome.{response};
 ghost use Rattle.sheet.specs.Admitted.{Admitted};
-use crate::Answer;
-use crate::Sheet;
+use crate::checks::loss_check;
+use crate::checks::surface_bound;
+use crate::checks::surface_check;
+use crate::requirement::goal_of;
+use crate::requirement::required_by;
 use balance::Choice;
 use balance::Provision;
 use balance::judge;
 use fractions::Bounds;
 use quadrature::Ladder;
 use refusals::Refusal;
+use sheet::Answer;
+use sheet::Sheet;
 
 pub enum Outcome {
     Refused(Refusal),
@@ -61,7 +66,7 @@ fn search_ladder(sheet: Sheet) -> Outcome
     requires { ⌜ Admitted sheet ⌝ }
     ensures { λ o. ⌜ response o ≡ respond (ladderCases sheet) (encoded (answerOf sheet (chosen sheet))) ⌝ }
 {
-    let required = sheet.required(sheet.goal());
+    let required = required_by(sheet, goal_of(sheet));
     match Provision::of(sheet.line).search(required) {
         Choice::AllInsufficient => Outcome::Refused(Refusal::NoneSufficient),
         Choice::Rung(r, provided) => judge_rung(sheet, required, r, provided),
@@ -88,8 +93,8 @@ fn answer_of(sheet: Sheet, r: u64, provided: Bounds) -> Answer
     Answer {
         shape: sheet.line.shape(),
         thickness: Ladder::thickness(r),
-        loss: sheet.loss_check(provided),
-        surface: sheet.surface_check(provided),
-        bound: sheet.surface_bound(provided),
+        loss: loss_check(sheet, provided),
+        surface: surface_check(sheet, provided),
+        bound: surface_bound(sheet, provided),
     }
 }

@@ -3,11 +3,11 @@
 use mathlib.Core.Path.{ap, _∙_}
 use native.Mathlib.Omega.{arith}
 use Rattle.balance.proofs.Sizes.{provided-size}
 use Rattle.sheet.specs.Answer.{lossCheck, surfaceCheck, surfaceBound, answerOf}
 use Rattle.quadrature.specs.Ladder.{thicknessAt}
 use borrow.Author.Needs.{needs}
-use Rattle.sheet.proofs.outcome.answer_of.Statement.{statement}
-use Rattle.sheet.proofs.outcome.answer_of.Tie as tie
+use Rattle.outcome.proofs.work.answer_of.Statement.{statement}
+use Rattle.outcome.proofs.work.answer_of.Tie as tie
 
 shape-requires : tie.Need-shape-requires
 shape-requires c κs = search needs

@@ -1,0 +1,7 @@
+// The outcome of a sheet: its refusal or its answer.
+mod checks;
+mod requirement;
+mod work;
+
+pub use work::Outcome;
+pub use work::work_out;
