@@ -21,9 +21,9 @@ def degrees(tenths):
 
 
 def line(piece):
-    """The line for one piece: a sheet of 24 bytes, or a short last piece of 1 to 23."""
+    """The line for one piece: a sheet of 24 bytes; a piece of another length has no line number."""
     result = answer(piece)
-    if len(piece) < 24:
+    if len(piece) != 24:
         return f"- refused {result}"
     number = 256 * piece[2] + piece[3]
     if isinstance(result, int):

@@ -14,6 +14,7 @@ from itertools import combinations
 from random import Random
 
 sys.dont_write_bytecode = True
+from listing import line
 from near import (aimed, allowed, between, chosen, close_loss, close_surface, economy_square, edge, fields, have, layer,
                   loss_limit, loss_need, moved, open_at, over_loss, packed, surface_need, thickness, verdict, within_loss)
 from sheet import MEETS, MISSES, OPEN, SEASONAL, YEAR_ROUND, answer, judge, ratio, root, signed, up
@@ -482,8 +483,8 @@ def main():
         for name, sheet, result in vectors():
             print(name, sheet.hex() or "-", f"refused {result}" if isinstance(result, int) else bytes(result).hex())
     elif sys.argv[1:] == ["expected"]:
-        names = [name for name, _, _ in vectors()]
-        print(*(f"{name} ok" for name in names), f"{len(names)} vectors, 0 failed", sep="\n")
+        lines = [f"{name} ok: {line(sheet)}" for name, sheet, _ in vectors()]
+        print(*lines, f"{len(lines)} vectors, 0 failed", sep="\n")
     else:
         sys.exit(__doc__.strip())
 

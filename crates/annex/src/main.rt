@@ -4,19 +4,9 @@ ghost use lib.ListN.{length};
 ghost use Rattle.annex_tables.specs.Annex.{entries};
 ghost use Rattle.io.specs.Counts.{Counts};
 ghost use Rattle.text.specs.Text.{Written};
-ghost use Rattle.annex.specs.Page.{field, line, page};
+ghost use Rattle.annex.specs.Page.{line, page};
 use libc::STDERR_FILENO;
 use libc::STDOUT_FILENO;
-
-// Puts the digits of n and one byte after them from place at on, and answers where they end.
-fn put_field(out: &mut [u8], at: usize, n: u64, after: u8) -> usize
-    requires { ⌜ at + 21 ≤ length (now out) ⌝ }
-    ensures { λ r. ⌜ Written (now (out .entry)) at (field n after) (now (out .exit)) r ⌝ }
-    ensures { λ r. ⌜ r ≤ at + 21 ⌝ }
-{
-    let end = text::put_decimal(out, at, n);
-    text::put(out, end, &[after])
-}
 
 // Puts the line of entry k.
 fn put_line(out: &mut [u8], at: usize, k: usize) -> usize
@@ -25,9 +15,9 @@ fn put_line(out: &mut [u8], at: usize, k: usize) -> usize
     ensures { λ r. ⌜ r ≤ at + 63 ⌝ }
 {
     let figures = annex_tables::entry(k);
-    let lower = put_field(out, at, 10 + k as u64, b' ');
-    let upper = put_field(out, lower, figures.lower, b' ');
-    put_field(out, upper, figures.upper, b'\n')
+    let lower = text::put_number(out, at, 10 + k as u64, b' ');
+    let upper = text::put_number(out, lower, figures.lower, b' ');
+    text::put_number(out, upper, figures.upper, b'\n')
 }
 
 // Puts the whole page at the start of out, and answers where it ends.

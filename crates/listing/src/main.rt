@@ -1,7 +1,8 @@
 // Lists the sheets that stand one after another on standard input: a header, and a line for each.
 ghost use mathlib.Core.Path.{_≡_};
-ghost use Prim.Native.Nat.{_+_, _*_, _≤_};
-ghost use lib.ListN.{length};
+ghost use mathlib.Core.Bool.{cond};
+ghost use Prim.Native.Nat.{_+_, _-_, _*_, _%_, _≤_};
+ghost use lib.ListN.{length, take};
 ghost use Rattle.io.specs.Counts.{Counts};
 use libc::STDERR_FILENO;
 use libc::STDIN_FILENO;
@@ -34,6 +35,7 @@ fn read_once(part: &mut [u8]) -> Read
 fn read_from(block: &mut [u8], at: usize) -> Read
     requires { ⌜ at ≤ length (now block) ⌝ }
     ensures { λ r. ⌜ at + r .count ≤ length (now (block .exit)) ⌝ }
+    ensures { λ _. ⌜ take at (now (block .exit)) ≡ take at (now (block .entry)) ⌝ }
 {
     read_once(&mut block[at..])
 }
@@ -62,16 +64,26 @@ fn fill(block: &mut [u8]) -> Input
     }
 }
 
-// Writes the lines of a block of at most 512 sheets, and answers whether all could be written.
+// Writes the bytes, or says that it cannot, and answers whether it could.
+fn write(bytes: &[u8]) -> bool {
+    let written = io::write_all(STDOUT_FILENO, bytes);
+    if !written {
+        io::write_all(STDERR_FILENO, b"listing: cannot write\n");
+    }
+    written
+}
+
+// Writes the lines of a block of at most 512 sheets.
 fn list(sheets: &[u8], out: &mut [u8]) -> bool
     requires { ⌜ (length (now sheets) ≤ 12_288) × (108 * 512 ≤ length (now out)) ⌝ }
 {
-    let n = lines::put_lines(out, sheets);
-    io::write_all(STDOUT_FILENO, &out[..n])
+    let n = listing_text::put_lines(out, sheets);
+    write(&out[..n])
 }
 
 // How many bytes of a block are listed: all, but where a read failed no more than the whole sheets.
 fn listed_length(input: Input) -> usize
+    ensures { λ r. ⌜ r ≡ cond (input .failed) (input .length - input .length % 24) (input .length) ⌝ }
     ensures { λ r. ⌜ r ≤ input .length ⌝ }
 {
     if input.failed {
@@ -87,7 +99,6 @@ fn list_block(block: &mut [u8], out: &mut [u8]) -> bool
     let input = fill(block);
     let listed = listed_length(input);
     if !list(&block[..listed], out) {
-        io::write_all(STDERR_FILENO, b"listing: cannot write\n");
         return false;
     }
     if input.failed {
@@ -116,10 +127,8 @@ fn empty_block() -> [u8; 12288]
 fn main() {
     let mut block = empty_block();
     let mut out = io::large_buffer();
-    let n = lines::put_header(&mut out);
-    if !io::write_all(STDOUT_FILENO, &out[..n]) {
-        io::write_all(STDERR_FILENO, b"listing: cannot write\n");
-        return;
+    let n = listing_text::put_header(&mut out);
+    if write(&out[..n]) {
+        list_all(&mut block, &mut out);
     }
-    list_all(&mut block, &mut out);
 }

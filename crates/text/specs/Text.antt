@@ -31,3 +31,7 @@ decimalUpTo (suc k) n = elim (ltb n 10) [ true ↦ (48 + n) ∷ [] | false ↦ d
 
 unfoldable pub decimal : ℕ → List ℕ
 decimal n = decimalUpTo n n
+
+-- a number and the byte after it
+abbrev pub numberAnd : ℕ → ℕ → List ℕ
+numberAnd n after = decimal n ++ (after ∷ [])

@@ -1,7 +1,7 @@
 // Text in lent bytes: pieces put one after the other.
 ghost use Prim.Native.Nat.{_+_, _≤_};
 ghost use lib.ListN.{length};
-ghost use Rattle.text.specs.Text.{Written, decimal};
+ghost use Rattle.text.specs.Text.{Written, decimal, numberAnd};
 
 // Puts the bytes of piece from place at on, and answers where they end.
 pub fn put(out: &mut [u8], at: usize, piece: &[u8]) -> usize
@@ -21,4 +21,14 @@ pub fn put_decimal(out: &mut [u8], at: usize, n: u64) -> usize
     let mut digits = [0u8; 20];
     let k = io::decimal(n, &mut digits);
     put(out, at, &digits[..k])
+}
+
+// Puts the digits of n and one byte after them.
+pub fn put_number(out: &mut [u8], at: usize, n: u64, after: u8) -> usize
+    requires { ⌜ at + 21 ≤ length (now out) ⌝ }
+    ensures { λ r. ⌜ Written (now (out .entry)) at (numberAnd n after) (now (out .exit)) r ⌝ }
+    ensures { λ r. ⌜ r ≤ at + 21 ⌝ }
+{
+    let end = put_decimal(out, at, n);
+    put(out, end, &[after])
 }

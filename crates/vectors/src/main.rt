@@ -7,8 +7,8 @@ ghost use Rattle.io.specs.Counts.{Counts};
 use bytes::scan::find;
 use libc::STDIN_FILENO;
 use libc::STDOUT_FILENO;
-use sheet::Outcome;
-use sheet::work_out;
+use outcome::Outcome;
+use outcome::work_out;
 
 // The digit of a byte of text, 0 where it is none.
 fn digit(b: u8) -> u8
@@ -54,7 +54,7 @@ fn comes_to(sheet: &[u8], expected: &[u8]) -> bool {
     let mut room = [0u8; 64];
     match work_out(sheet) {
         Outcome::Refused(why) => {
-            let n = lines::put_refusal(&mut room, 0, why);
+            let n = listing_text::put_refusal(&mut room, 0, why);
             check::same(&room[..n], expected)
         }
         Outcome::Answered(answer) => {
@@ -65,13 +65,10 @@ fn comes_to(sheet: &[u8], expected: &[u8]) -> bool {
     }
 }
 
-// Says what a vector came to that did not pass.
-fn report(sheet: &[u8], expected: &[u8]) {
+// Writes the sheet's line of the listing.
+fn list(sheet: &[u8]) {
     let mut line = [0u8; 128];
-    let n = lines::put_line(&mut line, 0, sheet);
-    io::write_all(STDOUT_FILENO, b" FAILED: expected ");
-    io::write_all(STDOUT_FILENO, expected);
-    io::write_all(STDOUT_FILENO, b", listed as ");
+    let n = listing_text::put_line(&mut line, 0, sheet);
     io::write_all(STDOUT_FILENO, &line[..n]);
 }
 
@@ -83,8 +80,8 @@ fn after(i: usize, end: usize) -> usize
     if i < end { i + 1 } else { end }
 }
 
-// Runs the vector of a line, and answers how many failed: 0 or 1.
-fn failures(line: &[u8]) -> u64
+// Runs the vector of a line: says whether it passed, and lists its sheet. Answers how many failed, 0 or 1.
+fn run_vector(line: &[u8]) -> u64
     ensures { λ r. ⌜ r ≤ 1 ⌝ }
 {
     let end = line.len();
@@ -96,10 +93,14 @@ fn failures(line: &[u8]) -> u64
     let n = put_bytes(&mut room, &line[sheet_start..sheet_end]);
     io::write_all(STDOUT_FILENO, &line[..name_end]);
     if comes_to(&room[..n], &line[expected..]) {
-        io::write_all(STDOUT_FILENO, b" ok\n");
+        io::write_all(STDOUT_FILENO, b" ok: ");
+        list(&room[..n]);
         return 0;
     }
-    report(&room[..n], &line[expected..]);
+    io::write_all(STDOUT_FILENO, b" FAILED, expected ");
+    io::write_all(STDOUT_FILENO, &line[expected..]);
+    io::write_all(STDOUT_FILENO, b": ");
+    list(&room[..n]);
     1
 }
 
@@ -119,7 +120,7 @@ fn run(vectors: &[u8]) {
     let mut from = 0;
     while from < end {
         let to = find(vectors, from, end, b'\n');
-        failed += failures(&vectors[from..to]);
+        failed += run_vector(&vectors[from..to]);
         count += 1;
         from = after(to, end);
     }
@@ -127,14 +128,14 @@ fn run(vectors: &[u8]) {
 }
 
 // Room for the vectors.
-fn room() -> [u8; 262144]
+fn empty_room() -> [u8; 262144]
     ensures { λ r. ⌜ 262_144 ≡ length r ⌝ }
 {
     [0; 262144]
 }
 
 fn main() {
-    let mut vectors = room();
+    let mut vectors = empty_room();
     let length = io::read_full(STDIN_FILENO, &mut vectors);
     if length == 262144 {
         io::write_all(STDOUT_FILENO, b"too many vectors\n");

@@ -6,30 +6,30 @@ use Prim.Native.Nat.{ℕ}
 use native.Mathlib.Omega.{arith}
 use borrow.Author.Needs.{needs}
 use Rattle.fractions.proofs.Sides.{lower-of, upper-of}
-use Rattle.text.specs.Text.{Written}
+use Rattle.text.specs.Text.{Written, numberAnd}
 use Rattle.text.proofs.Overlay.{then}
-use Rattle.annex.specs.Page.{field, line}
+use Rattle.annex.specs.Page.{line}
 use Rattle.annex.proofs.put_line.Statement.{statement}
 use Rattle.annex.proofs.put_line.Tie as tie
 
--- the same field, of an equal number
-of-number : (after : ℕ) {b c : List ℕ} {at m n e : ℕ} → Written b at (field m after) c e → m ≡ n → Written b at (field n after) c e
-of-number after {b} {c} {at} {e = e} w same = subst (λ (x : ℕ). Written b at (field x after) c e) same w
+-- the same, of an equal number
+of-number : (after : ℕ) {b c : List ℕ} {at m n e : ℕ} → Written b at (numberAnd m after) c e → m ≡ n → Written b at (numberAnd n after) c e
+of-number after {b} {c} {at} {e = e} w same = subst (λ (x : ℕ). Written b at (numberAnd x after) c e) same w
 
 entry-requires : tie.Need-entry-requires
 entry-requires c κs = search needs
 
-add-put-field : tie.Need-add-put-field
-add-put-field c = search needs
+add-put-number : tie.Need-add-put-number
+add-put-number c = search needs
 
-put-field-requires : tie.Need-put-field-requires
-put-field-requires c κs = search needs
+put-number-requires : tie.Need-put-number-requires
+put-number-requires c κs = search needs
 
-put-field-requires-2 : tie.Need-put-field-requires-2
-put-field-requires-2 c κs = search needs
+put-number-requires-2 : tie.Need-put-number-requires-2
+put-number-requires-2 c κs = search needs
 
-put-field-requires-3 : tie.Need-put-field-requires-3
-put-field-requires-3 c κs = search needs
+put-number-requires-3 : tie.Need-put-number-requires-3
+put-number-requires-3 c κs = search needs
 
 same-length : tie.Need-same-length
 same-length c = search needs
@@ -41,9 +41,9 @@ returns c =
     let under = over .before .before .before .before in
     let mm = under .before .before .before .before in
     let entry = mm .before .before .entry .ensures in
-    let first = mm .put-field .ensures in
-    let second = under .put-field2 .ensures in
-    let third = over .put-field3 .ensures in
+    let first = mm .put-number .ensures in
+    let second = under .put-number2 .ensures in
+    let third = over .put-number3 .ensures in
     let two = then (first .0) (omega arith) (of-number 32 (second .0) (lower-of entry)) in
     (then two (omega arith) (of-number 10 (third .0) (upper-of entry)), omega arith)
 
@@ -52,9 +52,9 @@ put-line-spec =
     tie.close
     (tie.spec
     entry-requires
-    add-put-field
-    put-field-requires
-    put-field-requires-2
-    put-field-requires-3
+    add-put-number
+    put-number-requires
+    put-number-requires-2
+    put-number-requires-3
     same-length
     returns)

@@ -1,15 +1,14 @@
 -- `annex::put_page` meets its contract. The loop's invariant: the first k lines stand after the header. The measure is what is left of the entries.
 -- Assumes nothing.
-use mathlib.Core.Path.{_≡_, sym}
+use mathlib.Core.Path.{_≡_}
 use Prim.Native.Nat.{_+_, _-_, _*_, _≤_}
 use native.Mathlib.Numerals.{add-one}
 use native.Mathlib.Omega.{arith}
 use borrow.Author.Needs.{needs}
 use lib.ListN.{length}
-use lib.Seq.{length-take-le}
 use Rattle.annex_tables.specs.Annex.{entries}
 use Rattle.text.specs.Text.{Written}
-use Rattle.text.proofs.Overlay.{nothing, then}
+use Rattle.text.proofs.Overlay.{nothing, then, counts}
 use Rattle.annex.specs.Page.{lines}
 use Rattle.annex.proofs.put_page.Statement.{statement}
 use Rattle.annex.proofs.put_page.Tie as tie
@@ -56,8 +55,7 @@ returns c =
     let loop = c .before .loop in
     let header = c .before .before .before .before .put .ensures in
     let all : loop .k ≡ entries = omega arith in
-    let within : loop .end ≤ length (loop .out) = omega arith in
-    (then header (omega (arith, header .end)) (rw all at (loop .inv .3)), (within, sym (length-take-le (loop .end) (loop .out) within)))
+    (then header (omega (arith, header .end)) (rw all at (loop .inv .3)), counts (loop .end) (loop .out) (omega arith))
 
 pub put-page-spec : {M : Type 1} → statement M
 put-page-spec =

@@ -19,21 +19,15 @@ slice-reshare-prefix-list : tie.Need-slice-reshare-prefix-list
 slice-reshare-prefix-list c = search needs
 
 slice-aggregate-list : tie.Need-slice-aggregate-list
-slice-aggregate-list c =
+slice-aggregate-list c = 
     let block = c .before .before .before .before .fill .last .0 in
     sym (length-take-le (c .before .listed-length .result) block (omega arith))
 
 list-requires : tie.Need-list-requires
-list-requires c κs =
+list-requires c κs = 
     let block = c .before .before .before .before .before .fill .last .0 in
     let within : c .before .before .listed-length .result ≤ length block = omega arith in
     (omega (arith, length-take-le (c .before .before .listed-length .result) block within), omega arith)
-
-slice-aggregate-write-all : tie.Need-slice-aggregate-write-all
-slice-aggregate-write-all c = search needs
-
-write-all-requires : tie.Need-write-all-requires
-write-all-requires c κs = search needs
 
 same-length : tie.Need-same-length
 same-length c = search needs
@@ -44,11 +38,11 @@ same-length-2 c = search needs
 returns : tie.Need-returns
 returns c = search needs
 
-slice-aggregate-write-all-2 : tie.Need-slice-aggregate-write-all-2
-slice-aggregate-write-all-2 c = search needs
+slice-aggregate-write-all : tie.Need-slice-aggregate-write-all
+slice-aggregate-write-all c = search needs
 
-write-all-requires-2 : tie.Need-write-all-requires-2
-write-all-requires-2 c κs = search needs
+write-all-requires : tie.Need-write-all-requires
+write-all-requires c κs = search needs
 
 same-length-3 : tie.Need-same-length-3
 same-length-3 c = search needs
@@ -68,13 +62,11 @@ list-block-spec =
     slice-reshare-prefix-list
     slice-aggregate-list
     list-requires
-    slice-aggregate-write-all
-    write-all-requires
     same-length
     same-length-2
     returns
-    slice-aggregate-write-all-2
-    write-all-requires-2
+    slice-aggregate-write-all
+    write-all-requires
     same-length-3
     same-length-4
     returns-2)

@@ -18,17 +18,17 @@ loop-holds c = omega arith
 find-requires : tie.Need-find-requires Inv-loop μ-loop
 find-requires c κs = omega arith
 
-sub-failures : tie.Need-sub-failures Inv-loop μ-loop
-sub-failures c = omega arith
+sub-run-vector : tie.Need-sub-run-vector Inv-loop μ-loop
+sub-run-vector c = omega arith
 
-part-failures-start : tie.Need-part-failures-start Inv-loop μ-loop
-part-failures-start c = search needs
+part-run-vector-start : tie.Need-part-run-vector-start Inv-loop μ-loop
+part-run-vector-start c = search needs
 
-part-failures-end : tie.Need-part-failures-end Inv-loop μ-loop
-part-failures-end c = search needs
+part-run-vector-end : tie.Need-part-run-vector-end Inv-loop μ-loop
+part-run-vector-end c = search needs
 
-failures-requires : tie.Need-failures-requires Inv-loop μ-loop
-failures-requires c κs = search needs
+run-vector-requires : tie.Need-run-vector-requires Inv-loop μ-loop
+run-vector-requires c κs = search needs
 
 add-failed : tie.Need-add-failed Inv-loop μ-loop
 add-failed c = omega arith
@@ -59,10 +59,10 @@ run-spec =
     μ-loop
     loop-holds
     find-requires
-    sub-failures
-    part-failures-start
-    part-failures-end
-    failures-requires
+    sub-run-vector
+    part-run-vector-start
+    part-run-vector-end
+    run-vector-requires
     add-failed
     add-count
     after-requires
