@@ -11,9 +11,8 @@ use Rattle.fractions.specs.declared.Bounds.{Bounds}
 use Rattle.fractions.specs.Fraction.{Fraction, _≼_}
 use Rattle.fractions.proofs.Rounding.{floor-mono, ceiling-mono}
 use Rattle.quadrature.specs.Ladder.{thicknessAt}
-use Rattle.quadrature.specs.Units.{outerDiameter}
 use Rattle.quadrature.specs.Sums.{total}
-use Rattle.quadrature.specs.Figures.{lowerStep, upperStep, lowerLog, upperLog}
+use Rattle.quadrature.specs.Figures.{lowerStep, upperStep}
 use Rattle.quadrature.proofs.Sums.{total-grows}
 use Rattle.balance.specs.declared.line.Line.{Line}
 use Rattle.balance.specs.declared.line.Shape.{Shape}

@@ -15,7 +15,7 @@ use Rattle.balance.specs.declared.line.Shape.{Shape}
 use Rattle.balance.specs.declared.line.Shape.the-variants.{Cylinder, Flat}
 use Rattle.balance.specs.declared.goal.EconomyTerms.{EconomyTerms}
 use Rattle.balance.specs.Line.{shapeOf, multiplier}
-use Rattle.balance.specs.Provided.{insulation, film, fromFigures, insulationBounds, filmBounds, provided}
+use Rattle.balance.specs.Provided.{insulation, film, insulationBounds, filmBounds, provided}
 use Rattle.balance.specs.Ranges.{LineInRange, EconomyInRange}
 
 pub cylinder-diameter : (l : Line) → shapeOf l ≡ Cylinder → l .diameter .0 ≤ 10_000

@@ -15,9 +15,9 @@ impl Verdict {
         ensures { λ r. ⌜ r ≡ notInsufficient self ⌝ }
     {
         match self {
-            Verdict::Sufficient => true,
-            Verdict::Insufficient => false,
-            Verdict::Undecided => true,
+            Self::Sufficient => true,
+            Self::Insufficient => false,
+            Self::Undecided => true, // no open rung is jumped
         }
     }
 
@@ -26,9 +26,9 @@ impl Verdict {
         ensures { λ r. ⌜ r ≡ isUndecided self ⌝ }
     {
         match self {
-            Verdict::Sufficient => false,
-            Verdict::Insufficient => false,
-            Verdict::Undecided => true,
+            Self::Sufficient => false,
+            Self::Insufficient => false,
+            Self::Undecided => true,
         }
     }
 }

@@ -7,7 +7,6 @@ use native.Mathlib.Nat.{add-zero, add-suc}
 use native.Mathlib.Omega.{arith}
 use lib.ListN.{length, take, drop, length-append, length-drop}
 use lib.Seq.{drop-append-add, take-append-le, drop-append-le}
-use Rattle.listing_text.specs.Line.{lineOf}
 use Rattle.listing_text.specs.Listing.{pieces, piece, firstLines, linesOf, header, listing}
 
 module _ (a b : List ℕ) (n : ℕ) (whole : length a ≡ 24 * n) where

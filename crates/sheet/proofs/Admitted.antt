@@ -3,7 +3,7 @@
 use mathlib.Core.Path.{_≡_}
 use mathlib.Core.Bool.{Bool, true, false, cond, _&&_, and-eq-true-iff}
 use mathlib.Core.List.{List, []}
-use Prim.Native.Nat.{ℕ, _-_, _≤_, _<_}
+use Prim.Native.Nat.{ℕ, _-_, _≤_}
 use native.Mathlib.Nat.{pos-of-ne-zero}
 use native.Mathlib.Omega.{arith}
 use lib.Dec.{eqb, ltb}
@@ -11,7 +11,7 @@ use borrow.Author.Tests.{eqb-false, leb-false, ltb-true, not-false}
 use Rattle.balance.specs.declared.goal.Goal.the-variants.{Economy, Loss, Surface}
 use Rattle.balance.specs.Ranges.{GoalInRange}
 use Rattle.sheet.specs.declared.fields.Sheet.{Sheet}
-use Rattle.sheet.specs.Sheet.{decoded, difference, surfaceAim, goalOf}
+use Rattle.sheet.specs.Sheet.{decoded, difference, surfaceAim}
 use Rattle.sheet.specs.Ranges.{anyOutside, economyFields}
 use Rattle.refusals.specs.Cases.{NoneHolds}
 use Rattle.sheet.specs.Refusals.{aimRefused, fieldCases}

@@ -1,13 +1,13 @@
 -- Demands 2 and 3 of a sheet, as `specs/Demands.antt` states them.
 -- Assumes nothing.
-use mathlib.Core.Path.{_≡_, refl, sym, _∙_, ap}
+use mathlib.Core.Path.{_≡_, refl, _∙_, ap}
 use mathlib.Core.Bool.{true, false}
 use mathlib.Core.List.{List, [], _∷_}
 use Prim.Native.Nat.{ℕ, _+_, _*_, _/_, _%_, _≤_, _<_}
 use native.Mathlib.Nat.{mod-eq-of-lt, div-add-mod'}
 use native.Mathlib.Omega.{arith}
 use lib.Dec.{eqb}
-use borrow.Author.Tests.{eqb-true, eqb-false, eq-eqb, ne-eqb}
+use borrow.Author.Tests.{eqb-true, eqb-false}
 use Rattle.quadrature.specs.Ladder.{rungs, thicknessAt}
 use Rattle.balance.specs.declared.verdict.Verdict.{Verdict}
 use Rattle.balance.specs.declared.verdict.Verdict.the-variants.{Sufficient, Insufficient, Undecided}
@@ -20,7 +20,7 @@ use Rattle.sheet.specs.declared.encoding.Answer.{Answer}
 use Rattle.sheet.specs.Bytes.{bigEndian, bytesOf, offsetBinary}
 use Rattle.sheet.specs.Sheet.{decoded, difference, goalOf}
 use Rattle.sheet.specs.Search.{requirementOf, verdicts, chosen}
-use Rattle.sheet.specs.Answer.{encoded, lossCheck, surfaceCheck, surfaceBound, answerOf, answer}
+use Rattle.sheet.specs.Answer.{encoded, surfaceBound, answerOf, answer}
 use Rattle.sheet.specs.Refusals.{fieldCases, ladderCases, cases, responseTo}
 use Rattle.refusals.specs.Cases.{case, NoneHolds}
 use Rattle.refusals.specs.Response.{refused, complete}

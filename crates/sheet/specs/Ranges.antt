@@ -1,7 +1,7 @@
 -- The ranges of a sheet's fields. 01, "The sheet: 24 bytes".
 -- Assumes nothing.
 use Prim.Native.Nat.{ℕ, _+_, _-_}
-use mathlib.Core.Bool.{Bool, true, false, _||_, cond}
+use mathlib.Core.Bool.{Bool, false, _||_, cond}
 use mathlib.Core.List.{List, [], _∷_, map}
 use lib.Dec.{ltb, eqb}
 use Rattle.sheet.specs.declared.fields.Sheet.{Sheet}

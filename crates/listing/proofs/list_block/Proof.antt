@@ -19,12 +19,12 @@ slice-reshare-prefix-list : tie.Need-slice-reshare-prefix-list
 slice-reshare-prefix-list c = search needs
 
 slice-aggregate-list : tie.Need-slice-aggregate-list
-slice-aggregate-list c = 
+slice-aggregate-list c =
     let block = c .before .before .before .before .fill .last .0 in
     sym (length-take-le (c .before .listed-length .result) block (omega arith))
 
 list-requires : tie.Need-list-requires
-list-requires c κs = 
+list-requires c κs =
     let block = c .before .before .before .before .before .fill .last .0 in
     let within : c .before .before .listed-length .result ≤ length block = omega arith in
     (omega (arith, length-take-le (c .before .before .listed-length .result) block within), omega arith)

@@ -35,7 +35,7 @@ put-bytes-requires : tie.Need-put-bytes-requires
 put-bytes-requires c κs = search needs
 
 slice-aggregate-write-all : tie.Need-slice-aggregate-write-all
-slice-aggregate-write-all c = 
+slice-aggregate-write-all c =
     let start = c .before .before .before .before .before .before .before .before .before .before in
     sym (length-take-le (c .before .before .before .before .before .before .before .before .find .result) (start .args .line .now) (omega arith))
 

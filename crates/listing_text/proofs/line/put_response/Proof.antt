@@ -1,6 +1,6 @@
 -- What a sheet comes to, as text, meets its contract.
 -- Assumes nothing.
-use mathlib.Core.Path.{_≡_, sym, ap, _∙_}
+use mathlib.Core.Path.{sym, ap, _∙_}
 use native.Mathlib.Omega.{arith}
 use Rattle.refusals.specs.Response.{complete}
 use Rattle.outcome.specs.Outcome.{response}

@@ -1,7 +1,7 @@
 -- `surface_bound` meets its contract.
 -- Assumes nothing.
 use mathlib.Core.Path.{_≡_, ap, _∙_}
-use Prim.Native.Nat.{ℕ, _*_, _≤_}
+use Prim.Native.Nat.{ℕ, _*_}
 use native.Mathlib.Omega.{arith}
 use Rattle.fractions.specs.Fraction.{_over_}
 use Rattle.fractions.specs.Rounding.{ceiling}

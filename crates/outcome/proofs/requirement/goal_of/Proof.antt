@@ -5,7 +5,6 @@ use Prim.Native.Nat.{ℕ, _-_}
 use native.Mathlib.Omega.{arith}
 use borrow.Author.Tests.{eq-eqb, ne-eqb}
 use Rattle.balance.specs.declared.goal.Goal.the-variants.{Surface}
-use Rattle.balance.specs.Ranges.{GoalInRange}
 use Rattle.sheet.proofs.Inside.{surface-goal}
 use borrow.Author.Needs.{needs}
 use Rattle.outcome.proofs.requirement.goal_of.Statement.{statement}

@@ -1,7 +1,6 @@
 -- The search of the ladder meets its contract.
 -- Assumes nothing.
 use mathlib.Core.Path.{_≡_, refl, sym, ap, _∙_}
-use Rattle.balance.specs.declared.goal.Goal.{Goal}
 use Rattle.balance.specs.declared.provision.Provision.{Provision}
 use Rattle.balance.specs.Choice.{searched}
 use Rattle.balance.specs.Prepared.{provision}

@@ -1,21 +1,20 @@
 -- The call that answers a sheet meets its contract.
 -- Assumes nothing.
-use mathlib.Core.Path.{_≡_, refl, sym, ap, _∙_}
-use mathlib.Core.Bool.{Bool, true, false, not}
-use mathlib.Core.List.{List, [], _∷_, _++_}
-use Prim.Native.Nat.{ℕ, suc}
+use mathlib.Core.Path.{_≡_, sym, ap, _∙_}
+use mathlib.Core.Bool.{false, not}
+use mathlib.Core.List.{List, [], _++_}
+use Prim.Native.Nat.{ℕ}
 use lib.Dec.{leb, eqb}
 use lib.ListN.{length, take, drop}
 use borrow.Author.Tests.{eq-eqb, ne-eqb}
 use denote.Ref.{now}
-use Rattle.refusals.specs.Cases.{Case, case, NoneHolds}
-use Rattle.refusals.specs.Response.{refused, respond}
+use Rattle.refusals.specs.Cases.{NoneHolds}
 use Rattle.refusals.proofs.Response.{here, later}
 use Rattle.sheet.specs.declared.fields.Sheet.{Sheet}
 use Rattle.sheet.specs.Sheet.{decoded, goalOf}
 use Rattle.sheet.specs.Ranges.{anyOutside, codes, ranges, mustBeZero}
 use Rattle.sheet.specs.Answer.{answer}
-use Rattle.sheet.specs.Refusals.{aimRefused, fieldCases, ladderCases, cases, responseTo}
+use Rattle.sheet.specs.Refusals.{aimRefused, fieldCases, ladderCases}
 use Rattle.sheet.proofs.Admitted.{admitted}
 use borrow.Author.Needs.{needs}
 use Rattle.outcome.proofs.work.work_out.Statement.{statement}
