@@ -24,14 +24,23 @@ above-previous p pos some =
 -- a fraction that is no less is rounded to a number that is no less
 module _ (p q : Fraction) (hp : 0 < p .den) (hq : 0 < q .den) (le : p ≼ q) where
   pub floor-mono : floor p ≤ floor q
-  floor-mono =
-      let not-less : ¬ (floor q < floor p) = λ lt. omega (arith, mul-lt-mul-of-pos-right (below-next q hq) hp, mul-le-mul-right (q .den) (floor-below p), mul-le-mul-right (q .den * p .den) lt) in
-      omega arith
+  floor-mono = let not-less : ¬ (floor q < floor p) = less in omega arith
+    where
+      less : ¬ (floor q < floor p)
+      less lt =
+          let p-below = mul-le-mul-right (q .den) (floor-below p) in
+          let q-below = mul-lt-mul-of-pos-right (below-next q hq) hp in
+          omega (arith, p-below, q-below, mul-le-mul-right (q .den * p .den) lt)
 
   pub ceiling-mono : ceiling p ≤ ceiling q
-  ceiling-mono =
-      let not-less : ¬ (ceiling q < ceiling p) = λ lt. (let previous : ceiling q ≤ ceiling p - 1 = omega arith in omega (arith, mul-lt-mul-of-pos-right (above-previous p hp (omega arith)) hq, mul-le-mul-right (p .den) (ceiling-above q hq), mul-le-mul-right (q .den * p .den) previous)) in
-      omega arith
+  ceiling-mono = let not-less : ¬ (ceiling q < ceiling p) = less in omega arith
+    where
+      less : ¬ (ceiling q < ceiling p)
+      less lt =
+          let previous : ceiling q ≤ ceiling p - 1 = omega arith in
+          let p-above = mul-lt-mul-of-pos-right (above-previous p hp (omega arith)) hq in
+          let q-above = mul-le-mul-right (p .den) (ceiling-above q hq) in
+          omega (arith, p-above, q-above, mul-le-mul-right (q .den * p .den) previous)
 
 -- by one division: the quotient itself where nothing is left over, else the next number
 module _ (n d : ℕ) (pos : 0 < d) where

@@ -1,11 +1,12 @@
 -- What a call with a list of cases responds.
 -- Assumes nothing.
-use mathlib.Core.Path.{_≡_, refl, _∙_, ap}
+use mathlib.Core.Path.{_≡_, refl, ap}
 use mathlib.Core.Bool.{Bool, true, false, not, _&&_, and-eq-true-iff, true≢false, false≢true}
 use mathlib.Core.Logic.{inl, inr}
 use mathlib.Core.List.{List, [], _∷_, _++_, append-nil}
-use Prim.Native.Nat.{ℕ}
+use Prim.Native.Nat.{ℕ, zero, suc}
 use lib.Dec.{eqb}
+use lib.ListN.{take}
 use borrow.Author.Tests.{eq-eqb}
 use Rattle.refusals.specs.Cases.{Case, case, NoneHolds, FirstHolds}
 use Rattle.refusals.specs.Response.{Response, refused, complete, respond, FirstOrComplete}
@@ -23,15 +24,31 @@ first-or-complete (c ∷ cs) bytes = go (c .holds) refl (first-or-complete cs by
     go false h (inl first) = inl (first .0, inr (h, first .1), first .2)
     go false h (inr none) = inr ((h, none .0), none .1)
 
--- None in front holds: the cases behind decide; and the next case holds.
+-- None in front holds: the cases behind decide. None before the case with index k holds, and it does: its number counts.
 pub later : (before after : List Case) (bytes : List ℕ) → NoneHolds before → respond (before ++ after) bytes ≡ respond after bytes
 unfolding NoneHolds respond
 later [] after bytes none = refl
 later (c ∷ before) after bytes none = rw (none .0) (later before after bytes (none .1))
 
-pub here : (before : List Case) (n : ℕ) (x : Bool) (after : List Case) (bytes : List ℕ) → NoneHolds before → x ≡ true → respond (before ++ (case n x ∷ after)) bytes ≡ refused n
-unfolding respond
-here before n x after bytes none e = later before (case n x ∷ after) bytes none ∙ rw e
+-- the case with index k, one that does not hold where there is none
+abbrev pub nth : ℕ → List Case → Case
+nth k [] = case 0 false
+nth zero (c ∷ cs) = c
+nth (suc k) (c ∷ cs) = nth k cs
+
+pub first-at : (k : ℕ) (cs : List Case) (bytes : List ℕ) → NoneHolds (take k cs) → nth k cs .holds ≡ true → respond cs bytes ≡ refused (nth k cs .number)
+unfolding NoneHolds respond
+first-at zero [] bytes none e = absurd (false≢true e)
+first-at zero (c ∷ cs) bytes none e = rw e
+first-at (suc k) [] bytes none e = absurd (false≢true e)
+first-at (suc k) (c ∷ cs) bytes none e = rw (none .0) (first-at k cs bytes (none .1) e)
+
+-- the next case fails too
+pub none-more : (k : ℕ) (cs : List Case) → NoneHolds (take k cs) → nth k cs .holds ≡ false → NoneHolds (take (suc k) cs)
+unfolding NoneHolds
+none-more k [] none e = tt
+none-more zero (c ∷ cs) none e = (e, tt)
+none-more (suc k) (c ∷ cs) none e = (none .0, none-more k cs (none .1) e)
 
 -- no case of the list has the number n
 unfoldable pub absent : ℕ → List Case → Bool

@@ -19,12 +19,12 @@ use Rattle.sheet.specs.Bytes.{bigEndian, bytesOf}
 use Rattle.sheet.specs.Sheet.{decoded, surfaceAim, goalOf}
 use Rattle.sheet.specs.Limits.{highestNotAbove, lossLimit}
 use Rattle.sheet.specs.Answer.{encoded, lossCheck, surfaceCheck, surfaceBound, answerOf, answer}
-use Rattle.sheet.specs.Refusals.{aimRefused, fieldCases, ladderCases, responseTo}
+use Rattle.sheet.specs.Refusals.{aimRefused, fieldCases, cases, responseTo}
 use Rattle.sheet.specs.Ranges.{anyOutside}
 use Rattle.refusals.specs.Cases.{NoneHolds}
 use Rattle.refusals.specs.Response.{refused, respond}
 use Rattle.sheet.specs.Worked.{Worked}
-use Rattle.refusals.proofs.Response.{here}
+use Rattle.refusals.proofs.Response.{first-at}
 
 -- goal 3 with the aim at t
 aim-refused : (s : Sheet) → s .goal ≡ 3 → surfaceAim s ≡ s .temperature → aimRefused s (goalOf s) ≡ true
@@ -33,9 +33,7 @@ aim-refused s goal aim =
     rw (goal, below, and-false)
 
 aim-at-t : (sheet : List ℕ) → let s = decoded sheet in s .goal ≡ 3 → surfaceAim s ≡ s .temperature → NoneHolds (take 5 (fieldCases sheet)) → responseTo sheet ≡ refused 16
-aim-at-t sheet goal aim earlier =
-    let s = decoded sheet in
-    here (take 5 (fieldCases sheet)) 16 (aimRefused s (goalOf s)) (ladderCases s) (answer sheet) earlier (aim-refused s goal aim)
+aim-at-t sheet goal aim earlier = first-at 5 (cases sheet) (answer sheet) earlier (aim-refused (decoded sheet) goal aim)
 
 pub worked : Worked
 unfolding lowerStep upperStep least insulation film insulationBounds filmBounds provided requirement enclosing firstNotInsufficient bigEndian bytesOf decoded highestNotAbove lossLimit lossCheck surfaceCheck surfaceBound encoded answerOf anyOutside respond

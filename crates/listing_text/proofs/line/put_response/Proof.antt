@@ -46,8 +46,8 @@ returns-2 : tie.Need-returns-2
 unfolding responseText
 returns-2 c =
     let put = c .before .before .put-answer .ensures in
-    let is = ap complete (c .before .before .before .before .before .encode .ensures) ∙ sym (ap response (c .before .before .before .before .before .before .before .answer .given .1)) ∙ c .before .before .before .before .before .before .before .before .before .work-out .ensures in
-    (rw (← is) (put .0), put .1)
+    let answered = sym (ap response (c .before .before .before .before .before .before .before .answer .given .1)) ∙ c .before .before .before .before .before .before .before .before .before .work-out .ensures in
+    (rw (← ap complete (c .before .before .before .before .before .encode .ensures) ∙ answered) (put .0), put .1)
 
 pub put-response-spec : {M : Type 1} → statement M
 put-response-spec =

@@ -32,8 +32,9 @@ same-length-2 c = search needs
 returns-2 : tie.Need-returns-2
 returns-2 c =
     let code = c .before .before .before .before .before .before .before .before .args .code in
+    let test = c .before .before .before .before .before in
     let put = c .before .before .put2 .ensures in
-    (rw (ne-eqb code 0 (c .before .before .before .before .before .before .if1 .left), eq-eqb code 1 (c .before .before .before .before .before .if2 .taken)) put, omega (arith, put .end))
+    (rw (ne-eqb code 0 (test .before .if1 .left), eq-eqb code 1 (test .if2 .taken)) put, omega (arith, put .end))
 
 slice-aggregate-put-3 : tie.Need-slice-aggregate-put-3
 slice-aggregate-put-3 c = search needs
@@ -47,8 +48,9 @@ same-length-3 c = search needs
 returns-3 : tie.Need-returns-3
 returns-3 c =
     let code = c .before .before .before .before .before .before .before .before .before .args .code in
+    let test = c .before .before .before .before .before in
     let put = c .before .before .put3 .ensures in
-    (rw (ne-eqb code 0 (c .before .before .before .before .before .before .before .if1 .left), ne-eqb code 1 (c .before .before .before .before .before .before .if2 .left), eq-eqb code 2 (c .before .before .before .before .before .if3 .taken)) put, omega (arith, put .end))
+    (rw (ne-eqb code 0 (test .before .before .if1 .left), ne-eqb code 1 (test .before .if2 .left), eq-eqb code 2 (test .if3 .taken)) put, omega (arith, put .end))
 
 slice-aggregate-put-4 : tie.Need-slice-aggregate-put-4
 slice-aggregate-put-4 c = search needs
@@ -62,8 +64,9 @@ same-length-4 c = search needs
 returns-4 : tie.Need-returns-4
 returns-4 c =
     let code = c .before .before .before .before .before .before .before .before .before .args .code in
+    let test = c .before .before .before .before .before in
     let put = c .before .before .put4 .ensures in
-    (rw (ne-eqb code 0 (c .before .before .before .before .before .before .before .if1 .left), ne-eqb code 1 (c .before .before .before .before .before .before .if2 .left), ne-eqb code 2 (c .before .before .before .before .before .if3 .left)) put, omega (arith, put .end))
+    (rw (ne-eqb code 0 (test .before .before .if1 .left), ne-eqb code 1 (test .before .if2 .left), ne-eqb code 2 (test .if3 .left)) put, omega (arith, put .end))
 
 pub put-check-spec : {M : Type 1} → statement M
 put-check-spec =

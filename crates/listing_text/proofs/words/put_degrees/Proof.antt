@@ -29,7 +29,8 @@ unfolding degrees
 returns c =
     let sign = c .before .before .before .before .before .before .put .ensures in
     let digits = c .before .before .put-tenths .ensures in
-    (rw (lt-ltb (c .before .before .before .before .before .before .before .before .before .before .before .args .t) zeroDegrees (c .before .before .before .before .before .before .before .before .before .if1 .taken)) (then sign (omega (arith, sign .end)) (digits .0)), omega (arith, sign .end))
+    let below = lt-ltb (c .before .before .before .before .before .before .before .before .before .before .before .args .t) zeroDegrees (c .before .before .before .before .before .before .before .before .before .if1 .taken) in
+    (rw below (then sign (omega (arith, sign .end)) (digits .0)), omega (arith, sign .end))
 
 put-tenths-requires-2 : tie.Need-put-tenths-requires-2
 put-tenths-requires-2 c κs = search needs

@@ -20,7 +20,9 @@ verdict c =
     let start = c .before .before in
     let a = start .args in
     let pre = start .pre in
-    c .is-undecided .ensures ∙ ap isUndecided (c .before .judge .ensures ∙ ap (λ (p : Bounds). judged p (a .required)) (pre .1 .2) ∙ ap (judged (provided (a .sheet .line) (thicknessAt (a .r)))) (pre .0 .1) ∙ ap (verdicts (a .sheet)) (pre .1 .0))
+    let had = ap (λ (p : Bounds). judged p (a .required)) (pre .1 .2) in
+    let needed = ap (judged (provided (a .sheet .line) (thicknessAt (a .r)))) (pre .0 .1) in
+    c .is-undecided .ensures ∙ ap isUndecided (c .before .judge .ensures ∙ had ∙ needed ∙ ap (verdicts (a .sheet)) (pre .1 .0))
 
 judge-requires : tie.Need-judge-requires
 judge-requires c κs = search needs

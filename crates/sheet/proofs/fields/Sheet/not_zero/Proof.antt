@@ -29,7 +29,14 @@ outside-requires-5 c κs = search needs
 returns-2 : tie.Need-returns-2
 unfolding anyOutside
 returns-2 c =
-    rw (ne-eqb (c .before .before .before .before .before .before .args .self .goal) 1 (c .before .before .before .before .if1 .left), c .before .before .before .outside2 .ensures 14, c .before .before .outside3 .ensures 16, c .before .outside4 .ensures 18, c .outside5 .ensures 20, or-false)
+    rw (
+      ne-eqb (c .before .before .before .before .before .before .args .self .goal) 1 (c .before .before .before .before .if1 .left),
+      c .before .before .before .outside2 .ensures 14,
+      c .before .before .outside3 .ensures 16,
+      c .before .outside4 .ensures 18,
+      c .outside5 .ensures 20,
+      or-false,
+    )
 
 pub not-zero-spec : {M : Type 1} → statement M
 not-zero-spec =
