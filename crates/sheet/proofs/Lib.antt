@@ -1,6 +1,7 @@
 pub mod Inside
 pub mod Ladder
 pub mod Admitted
+pub mod Offsets
 pub mod Demands
 pub mod Worked
 pub mod TwosComplement
