@@ -3,7 +3,7 @@ ghost use Prim.Native.Nat.{_+_, _*_, _≤_, _<_};
 ghost use lib.ListN.{length};
 ghost use Rattle.annex_tables.specs.Annex.{entries};
 ghost use Rattle.io.specs.Counts.{Counts};
-ghost use Rattle.text.specs.Text.{Written};
+ghost use Rattle.overlay.specs.Overlay.{Written};
 ghost use Rattle.annex.specs.Page.{line, page};
 use libc::STDERR_FILENO;
 use libc::STDOUT_FILENO;
@@ -26,7 +26,7 @@ fn put_page(out: &mut [u8]) -> usize
     ensures { λ r. ⌜ Written (now (out .entry)) 0 page (now (out .exit)) r ⌝ }
     ensures { λ r. ⌜ Counts r (now (out .exit)) ⌝ }
 {
-    let mut end = text::put(out, 0, b"mm under over\n");
+    let mut end = overlay::put(out, 0, b"mm under over\n");
     let mut k = 0;
     while k < annex_tables::ENTRIES {
         end = put_line(out, end, k);

@@ -2,12 +2,12 @@
 ghost use Prim.Native.Nat.{_*_, _≤_};
 ghost use lib.ListN.{length};
 ghost use Rattle.io.specs.Counts.{Counts};
-ghost use Rattle.text.specs.Text.{Written};
+ghost use Rattle.overlay.specs.Overlay.{Written};
 ghost use mathlib.Core.Path.{_≡_};
 ghost use Rattle.listing_text.specs.Listing.{header, pieces, linesOf};
 ghost use Rattle.listing_text.specs.Listing.{piece as Listing·piece};
 use crate::line::put_line;
-use text::put;
+use overlay::put;
 
 // Puts the header at the start of out, and answers where it ends.
 pub fn put_header(out: &mut [u8]) -> usize

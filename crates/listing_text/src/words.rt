@@ -1,10 +1,10 @@
 // The words and figures of a line, each put at a place of lent bytes.
 ghost use Prim.Native.Nat.{_+_, _≤_};
 ghost use lib.ListN.{length};
-ghost use Rattle.text.specs.Text.{Written};
+ghost use Rattle.overlay.specs.Overlay.{Written};
 ghost use Rattle.listing_text.specs.Line.{shapeWord, checkWord, tenths, degrees, spaced};
+use overlay::put;
 use sheet::ZERO;
-use text::put;
 use text::put_decimal;
 
 // The word for a shape, and a space.

@@ -30,6 +30,11 @@ unfolding NoneHolds respond
 later [] after bytes none = refl
 later (c ∷ before) after bytes none = rw (none .0) (later before after bytes (none .1))
 
+pub none-holds : (cs : List Case) (bytes : List ℕ) → NoneHolds cs → respond cs bytes ≡ complete bytes
+unfolding NoneHolds respond
+none-holds [] bytes none = refl
+none-holds (c ∷ cs) bytes none = rw (none .0) (none-holds cs bytes (none .1))
+
 -- the case with index k, one that does not hold where there is none
 abbrev pub nth : ℕ → List Case → Case
 nth k [] = case 0 false

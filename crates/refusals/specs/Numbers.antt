@@ -1,8 +1,8 @@
--- The numbers of the refusals. 01, "Sent back because of the sheet".
+-- The numbers of the refusals. 01, "Sent back because of the sheet", "Sent back because of the book".
 -- Assumes nothing.
 use Prim.Native.Nat.{ℕ}
 use Rattle.refusals.specs.declared.Refusal.{Refusal}
-use Rattle.refusals.specs.declared.Refusal.the-variants.{SheetLength, UnknownCode, OutOfRange, NotZero, NotWarmer, AimOutOfReach, NoneSufficient, TooClose}
+use Rattle.refusals.specs.declared.Refusal.the-variants.{SheetLength, UnknownCode, OutOfRange, NotZero, NotWarmer, AimOutOfReach, NoneSufficient, TooClose, BookSize, CountAboveCapacity, NoSuchEntry, BookFull, EntryUnsound}
 
 abbrev pub numberOf : Refusal → ℕ
 numberOf SheetLength = 11
@@ -13,3 +13,8 @@ numberOf NotWarmer = 15
 numberOf AimOutOfReach = 16
 numberOf NoneSufficient = 17
 numberOf TooClose = 18
+numberOf BookSize = 31
+numberOf CountAboveCapacity = 32
+numberOf NoSuchEntry = 33
+numberOf BookFull = 34
+numberOf EntryUnsound = 35

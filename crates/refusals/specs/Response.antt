@@ -17,6 +17,11 @@ unfoldable pub respond : List Case → List ℕ → Response
 respond [] bytes = complete bytes
 respond (c ∷ cs) bytes = elim (c .holds) [ true ↦ refused (c .number) | false ↦ respond cs bytes ]
 
+-- What a call leaves in lent bytes, where it is to leave `new`. 01, "Sent back because of the book": "No refusal changes a byte."
+abbrev pub after : Response → List ℕ → List ℕ → List ℕ
+after (refused n) new old = old
+after (complete bytes) new old = new
+
 -- Demand 1 of 00, of such a call: its answer "is the number of the first listed refusal, in the listed order, whose stated case holds,
 -- and is complete when none holds".
 abbrev pub FirstOrComplete : List Case → List ℕ → Response → Type 0

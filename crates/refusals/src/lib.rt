@@ -14,6 +14,13 @@ pub enum Refusal {
     // No thickness of the ladder is enough; the first that may be enough is not known to be.
     NoneSufficient,
     TooClose,
+    // Of a book: its length or capacity, a count above the capacity, no such entry, no slot left, an entry that is not a sheet with its
+    // answer.
+    BookSize,
+    CountAboveCapacity,
+    NoSuchEntry,
+    BookFull,
+    EntryUnsound,
 }
 
 impl Refusal {
@@ -29,6 +36,11 @@ impl Refusal {
             Refusal::AimOutOfReach => 16,
             Refusal::NoneSufficient => 17,
             Refusal::TooClose => 18,
+            Refusal::BookSize => 31,
+            Refusal::CountAboveCapacity => 32,
+            Refusal::NoSuchEntry => 33,
+            Refusal::BookFull => 34,
+            Refusal::EntryUnsound => 35,
         }
     }
 }

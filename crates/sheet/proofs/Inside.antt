@@ -17,7 +17,7 @@ pub record Inside (f : Field) (fs : List Field) : Type 0 where
   pub most : f .value ≤ f .most
   pub rest : anyOutside fs ≡ false
 
-or-false-both : (a b : Bool) → a || b ≡ false → (a ≡ false) × (b ≡ false)
+pub or-false-both : (a b : Bool) → a || b ≡ false → (a ≡ false) × (b ≡ false)
 or-false-both true b e = absurd (true≢false e)
 or-false-both false b e = (refl, e)
 

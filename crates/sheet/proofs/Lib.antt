@@ -2,7 +2,6 @@ pub mod Inside
 pub mod Ladder
 pub mod Admitted
 pub mod Offsets
-pub mod Demands
 pub mod Worked
 pub mod TwosComplement
 mod Rows

@@ -6,5 +6,4 @@ pub mod Limits
 pub mod Answer
 pub mod Refusals
 pub mod Admitted
-pub mod Demands
 pub mod Worked

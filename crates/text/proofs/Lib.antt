@@ -1,2 +1,2 @@
-pub mod Overlay
+pub mod Counts
 pub mod Decimal

@@ -15,15 +15,6 @@ abbrev pub ascii : String → List ℕ
 ascii Quoted.[] = []
 ascii (Quoted._∷_ c s) = code c ∷ ascii s
 
--- b with the bytes of v from place at on
-unfoldable pub overlay : List ℕ → ℕ → List ℕ → List ℕ
-overlay b at v = take at b ++ v ++ drop (at + length v) b
-
--- b became c: the bytes of v stand from place at on and end at place e, and the others are as they were
-pub record Written (b : List ℕ) (at : ℕ) (v c : List ℕ) (e : ℕ) : Type 0 where
-  pub end : e ≡ at + length v
-  pub bytes : c ≡ overlay b at v
-
 -- the decimal digits of n in ASCII, k + 1 at the most; n + 1 are always enough
 unfoldable pub decimalUpTo : ℕ → ℕ → List ℕ
 decimalUpTo zero n = (48 + n) ∷ []

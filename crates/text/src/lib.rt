@@ -1,16 +1,9 @@
 // Text in lent bytes: pieces put one after the other.
 ghost use Prim.Native.Nat.{_+_, _≤_};
 ghost use lib.ListN.{length};
-ghost use Rattle.text.specs.Text.{Written, decimal, numberAnd};
-
-// Puts the bytes of piece from place at on, and answers where they end.
-pub fn put(out: &mut [u8], at: usize, piece: &[u8]) -> usize
-    requires { ⌜ at + length (now piece) ≤ length (now out) ⌝ }
-    ensures { λ r. ⌜ Written (now (out .entry)) at (now (piece .entry)) (now (out .exit)) r ⌝ }
-{
-    bytes::copy(piece, &mut out[at..]);
-    at + piece.len()
-}
+ghost use Rattle.overlay.specs.Overlay.{Written};
+ghost use Rattle.text.specs.Text.{decimal, numberAnd};
+use overlay::put;
 
 // Puts n in decimal digits, of which a u64 has 20 at the most.
 pub fn put_decimal(out: &mut [u8], at: usize, n: u64) -> usize

@@ -6,8 +6,9 @@ use Prim.Native.Nat.{ℕ}
 use native.Mathlib.Omega.{arith}
 use borrow.Author.Needs.{needs}
 use Rattle.fractions.proofs.Sides.{lower-of, upper-of}
-use Rattle.text.specs.Text.{Written, numberAnd}
-use Rattle.text.proofs.Overlay.{then}
+use Rattle.overlay.specs.Overlay.{Written}
+use Rattle.text.specs.Text.{numberAnd}
+use Rattle.overlay.proofs.Overlay.{then}
 use Rattle.annex.specs.Page.{line}
 use Rattle.annex.proofs.put_line.Statement.{statement}
 use Rattle.annex.proofs.put_line.Tie as tie

@@ -7,8 +7,9 @@ use native.Mathlib.Omega.{arith}
 use borrow.Author.Needs.{needs}
 use lib.ListN.{length}
 use Rattle.annex_tables.specs.Annex.{entries}
-use Rattle.text.specs.Text.{Written}
-use Rattle.text.proofs.Overlay.{nothing, then, counts}
+use Rattle.overlay.specs.Overlay.{Written}
+use Rattle.overlay.proofs.Overlay.{nothing, then}
+use Rattle.text.proofs.Counts.{counts}
 use Rattle.annex.specs.Page.{lines}
 use Rattle.annex.proofs.put_page.Statement.{statement}
 use Rattle.annex.proofs.put_page.Tie as tie

@@ -2,7 +2,7 @@
 -- Assumes nothing.
 use native.Mathlib.Omega.{arith}
 use borrow.Author.Needs.{needs}
-use Rattle.text.proofs.Overlay.{then}
+use Rattle.overlay.proofs.Overlay.{then}
 use Rattle.text.proofs.put_number.Statement.{statement}
 use Rattle.text.proofs.put_number.Tie as tie
 

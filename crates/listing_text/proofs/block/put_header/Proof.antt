@@ -1,7 +1,7 @@
 -- The header meets its contract.
 -- Assumes nothing.
 use native.Mathlib.Omega.{arith}
-use Rattle.text.proofs.Overlay.{counts}
+use Rattle.text.proofs.Counts.{counts}
 use borrow.Author.Needs.{needs}
 use Rattle.listing_text.proofs.block.put_header.Statement.{statement}
 use Rattle.listing_text.proofs.block.put_header.Tie as tie

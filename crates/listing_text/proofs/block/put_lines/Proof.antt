@@ -5,8 +5,9 @@ use Prim.Native.Nat.{_-_, _*_, _≤_}
 use native.Mathlib.Numerals.{add-one}
 use native.Mathlib.Omega.{arith}
 use lib.ListN.{length}
-use Rattle.text.specs.Text.{Written}
-use Rattle.text.proofs.Overlay.{nothing, then, counts}
+use Rattle.overlay.specs.Overlay.{Written}
+use Rattle.overlay.proofs.Overlay.{nothing, then}
+use Rattle.text.proofs.Counts.{counts}
 use Rattle.listing_text.specs.Listing.{pieces, firstLines}
 use Rattle.listing_text.proofs.block.put_lines.Statement.{statement}
 use Rattle.listing_text.proofs.block.put_lines.Tie as tie

@@ -1,7 +1,7 @@
 -- The text of an answer meets its contract.
 -- Assumes nothing.
 use native.Mathlib.Omega.{arith}
-use Rattle.text.proofs.Overlay.{then}
+use Rattle.overlay.proofs.Overlay.{then}
 use Rattle.listing_text.specs.Line.{answerText}
 use borrow.Author.Needs.{needs}
 use Rattle.listing_text.proofs.line.put_answer.Statement.{statement}

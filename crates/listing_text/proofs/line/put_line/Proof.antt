@@ -1,7 +1,8 @@
 -- A line meets its contract.
 -- Assumes nothing.
 use native.Mathlib.Omega.{arith}
-use Rattle.text.proofs.Overlay.{then, counts}
+use Rattle.overlay.proofs.Overlay.{then}
+use Rattle.text.proofs.Counts.{counts}
 use Rattle.listing_text.specs.Line.{lineOf}
 use borrow.Author.Needs.{needs}
 use Rattle.listing_text.proofs.line.put_line.Statement.{statement}

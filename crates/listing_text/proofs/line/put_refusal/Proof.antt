@@ -1,7 +1,8 @@
 -- The text of a refusal meets its contract.
 -- Assumes nothing.
 use native.Mathlib.Omega.{arith}
-use Rattle.text.proofs.Overlay.{then, counts}
+use Rattle.overlay.proofs.Overlay.{then}
+use Rattle.text.proofs.Counts.{counts}
 use Rattle.listing_text.specs.Line.{responseText}
 use borrow.Author.Needs.{needs}
 use Rattle.listing_text.proofs.line.put_refusal.Statement.{statement}

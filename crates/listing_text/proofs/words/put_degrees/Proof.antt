@@ -2,7 +2,7 @@
 -- Assumes nothing.
 use native.Mathlib.Omega.{arith}
 use borrow.Author.Tests.{lt-ltb, le-ltb}
-use Rattle.text.proofs.Overlay.{then}
+use Rattle.overlay.proofs.Overlay.{then}
 use Rattle.sheet.specs.Bytes.{zeroDegrees}
 use Rattle.listing_text.specs.Line.{degrees}
 use borrow.Author.Needs.{needs}

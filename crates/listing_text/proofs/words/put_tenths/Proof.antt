@@ -1,7 +1,7 @@
 -- Tenths as a decimal number meet their contract.
 -- Assumes nothing.
 use native.Mathlib.Omega.{arith}
-use Rattle.text.proofs.Overlay.{then}
+use Rattle.overlay.proofs.Overlay.{then}
 use Rattle.listing_text.specs.Line.{tenths}
 use borrow.Author.Needs.{needs}
 use Rattle.listing_text.proofs.words.put_tenths.Statement.{statement}

@@ -28,6 +28,21 @@ enum-told-7 c = search needs
 enum-told-8 : tie.Need-enum-told-8
 enum-told-8 c = search needs
 
+enum-told-9 : tie.Need-enum-told-9
+enum-told-9 c = search needs
+
+enum-told-10 : tie.Need-enum-told-10
+enum-told-10 c = search needs
+
+enum-told-11 : tie.Need-enum-told-11
+enum-told-11 c = search needs
+
+enum-told-12 : tie.Need-enum-told-12
+enum-told-12 c = search needs
+
+enum-told-13 : tie.Need-enum-told-13
+enum-told-13 c = search needs
+
 returns : tie.Need-returns
 returns c = rw (c .enum-told .given .1)
 
@@ -52,5 +67,22 @@ returns-7 c = rw (c .enum-told7 .given .1)
 returns-8 : tie.Need-returns-8
 returns-8 c = rw (c .enum-told8 .given .1)
 
+returns-9 : tie.Need-returns-9
+returns-9 c = rw (c .enum-told9 .given .1)
+
+returns-10 : tie.Need-returns-10
+returns-10 c = rw (c .enum-told10 .given .1)
+
+returns-11 : tie.Need-returns-11
+returns-11 c = rw (c .enum-told11 .given .1)
+
+returns-12 : tie.Need-returns-12
+returns-12 c = rw (c .enum-told12 .given .1)
+
+returns-13 : tie.Need-returns-13
+returns-13 c = rw (c .enum-told13 .given .1)
+
 pub number-spec : {M : Type 1} → statement M
-number-spec = tie.close (tie.spec enum-told enum-told-2 enum-told-3 enum-told-4 enum-told-5 enum-told-6 enum-told-7 enum-told-8 returns returns-2 returns-3 returns-4 returns-5 returns-6 returns-7 returns-8)
+number-spec =
+    tie.close
+    (tie.spec enum-told enum-told-2 enum-told-3 enum-told-4 enum-told-5 enum-told-6 enum-told-7 enum-told-8 enum-told-9 enum-told-10 enum-told-11 enum-told-12 enum-told-13 returns returns-2 returns-3 returns-4 returns-5 returns-6 returns-7 returns-8 returns-9 returns-10 returns-11 returns-12 returns-13)

@@ -1,9 +1,9 @@
--- What the demands of 00 say of a sheet.
+-- The three demands of 00, "What the book must rest on".
 -- Assumes nothing.
 use Prim.Native.Nat.{ℕ, _-_, _≤_, _<_}
 use mathlib.Core.Path.{_≡_}
 use mathlib.Core.Logic.{_⊎_, _↔_}
-use mathlib.Core.List.{List}
+use mathlib.Core.List.{List, [], _∷_, _++_}
 use lib.ListN.{length, getD}
 use Rattle.quadrature.specs.Ladder.{rungs, thicknessAt}
 use Rattle.quadrature.specs.Cuttings.{lowerSum, upperSum}
@@ -14,17 +14,27 @@ use Rattle.balance.specs.declared.verdict.Verdict.the-variants.{Sufficient, Ins
 use Rattle.balance.specs.Line.{shapeOf}
 use Rattle.balance.specs.Provided.{provided}
 use Rattle.balance.specs.Exact.{providedExactly, Meets, Misses}
 use Rattle.sheet.specs.declared.fields.Sheet.{Sheet}
 use Rattle.sheet.specs.Bytes.{bigEndian, offsetBinary}
 use Rattle.sheet.specs.Sheet.{decoded, goalOf}
 use Rattle.sheet.specs.Search.{requirementOf, verdicts}
 use Rattle.sheet.specs.Answer.{shapeCode, checkCode, lossCode, lossCheck, surfaceCheck, surfaceBound, answer}
 use Rattle.sheet.specs.Refusals.{fieldCases, cases, responseTo}
+use Rattle.book.specs.declared.layout.Layout.{Layout}
+use Rattle.book.specs.Layout.{standard}
+use Rattle.book.specs.Book.{count, storedSheet, storedAnswer}
+use Rattle.book.specs.Refusals.{makingCases, filingCases, readingCases, making, made, filing, filed, reading}
 
--- Demand 1: "The answer to every sheet … is the number of the first listed refusal, in the listed order, whose stated case holds, and is
--- complete when none holds".
-abbrev pub Demand1 : Type 0
-Demand1 = (sheet : List ℕ) → FirstOrComplete (cases sheet) (answer sheet) (responseTo sheet)
+-- Demand 1: "The answer to every sheet and to every book, sound or damaged, is the number of the first listed refusal, in the listed order,
+-- whose stated case holds, and is complete when none holds": of each of the four calls, for every layout
+pub record Demand1 : Type 0 where
+  pub of-sheets : (sheet : List ℕ) → FirstOrComplete (cases sheet) (answer sheet) (responseTo sheet)
+  pub of-making : (l : Layout) (book : List ℕ) (c : ℕ) → FirstOrComplete (makingCases l book c) [] (making l book c)
+  pub of-filing : (l : Layout) (book sheet : List ℕ) → FirstOrComplete (filingCases l book sheet) (answer sheet) (filing l book sheet)
+  pub of-reading : (l : Layout) (book : List ℕ) (e : ℕ) → FirstOrComplete (readingCases l book e) (storedSheet l book e ++ storedAnswer l book e) (reading l book e)
+  -- "a refused filing changes no byte of the book", and no more does a refused making
+  pub filing-refused : (l : Layout) (book sheet : List ℕ) (n : ℕ) → filing l book sheet ≡ refused n → filed l book sheet ≡ book
+  pub making-refused : (l : Layout) (book : List ℕ) (c n : ℕ) → making l book c ≡ refused n → made l book c ≡ book
 
 -- all rungs below r miss
 abbrev pub InsufficientBelow : (ℕ → Verdict) → ℕ → Type 0
@@ -56,8 +66,23 @@ pub record SheetDemand2 (sheet : List ℕ) : Type 0 where
   pub seventeen : (responseTo sheet ≡ refused 17) ↔ (NoneHolds (fieldCases sheet) × InsufficientBelow (verdicts (decoded sheet)) rungs)
   pub eighteen : (responseTo sheet ≡ refused 18) ↔ (NoneHolds (fieldCases sheet) × FirstUndecided (verdicts (decoded sheet)))
 
+-- the book after the filing of each sheet of a list, refused ones among them
+unfoldable pub filedAll : Layout → List ℕ → List (List ℕ) → List ℕ
+filedAll l book [] = book
+filedAll l book (sheet ∷ sheets) = filedAll l (filed l book sheet) sheets
+
+-- "an entry filed in a new book reads back equal, however many are filed after it": for every capacity, whatever was filed before
+abbrev pub ReadsBack : Layout → Type 0
+ReadsBack l =
+    (lent : List ℕ) (c : ℕ) → making l lent c ≡ complete [] →
+    (before : List (List ℕ)) (sheet bytes : List ℕ) →
+    let book = filedAll l (made l lent c) before in
+    filing l book sheet ≡ complete bytes →
+    (later : List (List ℕ)) → reading l (filedAll l (filed l book sheet) later) (count l book) ≡ complete (sheet ++ bytes)
+
+-- Demand 2, of sheets and of the book
 abbrev pub Demand2 : Type 0
-Demand2 = (sheet : List ℕ) → SheetDemand2 sheet
+Demand2 = ((sheet : List ℕ) → SheetDemand2 sheet) × ReadsBack standard
 
 -- Demand 3: "For every answered sheet, every cutting of the logarithm's area that the paper allows, however fine, and every rung of the
 -- ladder: that rung equals the thickness we give exactly when it meets the exact equation on that cutting's under-sum and the rung below

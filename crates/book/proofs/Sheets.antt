@@ -1,4 +1,4 @@
--- Demands 2 and 3 of a sheet, as `specs/Demands.antt` states them.
+-- What demands 2 and 3 say of a sheet.
 -- Assumes nothing.
 use mathlib.Core.Path.{_≡_, refl, _∙_, ap}
 use mathlib.Core.Bool.{true, false}
@@ -15,20 +15,20 @@ use Rattle.balance.specs.Verdict.{notInsufficient, isUndecided}
 use Rattle.balance.proofs.Requirements.{in-range-proper}
 use Rattle.balance.proofs.Search.{first-within, misses-before, first-not-insufficient, first-is, first-none, least-anywhere}
 use Rattle.balance.proofs.Judgement.{MeetsOn, MissesOn, meets-stays, sound}
 use Rattle.sheet.specs.declared.fields.Sheet.{Sheet}
 use Rattle.sheet.specs.declared.encoding.Answer.{Answer}
 use Rattle.sheet.specs.Bytes.{bigEndian, bytesOf, offsetBinary}
 use Rattle.sheet.specs.Sheet.{decoded, difference, goalOf}
 use Rattle.sheet.specs.Search.{requirementOf, verdicts, chosen}
 use Rattle.sheet.specs.Answer.{encoded, surfaceBound, answerOf, answer}
 use Rattle.sheet.specs.Refusals.{fieldCases, ladderCases, cases, responseTo}
 use Rattle.refusals.specs.Cases.{case, NoneHolds}
 use Rattle.refusals.specs.Response.{refused, complete}
-use Rattle.sheet.specs.Demands.{Demand1, InsufficientBelow, AnswerTo, FirstUndecided, Demand2, Demand3}
-use Rattle.refusals.proofs.Response.{first-or-complete, later, absent, completed, behind, front}
+use Rattle.book.specs.Demands.{InsufficientBelow, AnswerTo, FirstUndecided, SheetDemand2, Demand3}
+use Rattle.refusals.proofs.Response.{later, absent, completed, behind, front}
 use Rattle.sheet.specs.Admitted.{Admitted}
 use Rattle.sheet.proofs.Admitted.{admitted}
 use Rattle.sheet.proofs.Ladder.{all-insufficient, first-undecided}
 
 -- what holds of an answered sheet
 pub record Answered (bytes : List ℕ) : Type 0 where
@@ -94,9 +94,6 @@ answer-to bytes known =
       bound = encoded-bound a (omega arith);
     }
 
-pub demand-1 : Demand1
-demand-1 sheet = first-or-complete (cases sheet) (answer sheet)
-
 pub demand-3 : Demand3
 demand-3 sheet bytes h m hm r lt =
     let s = decoded sheet in
@@ -147,8 +144,8 @@ module _ (sheet : List ℕ) where
       let is : c ≡ r = first-is v r (h .1 .1) (ap notInsufficient (h .1 .2)) (h .1 .3) in
       later (fieldCases sheet) (ladderCases (decoded sheet)) (answer sheet) (h .0) ∙ first-undecided (decoded sheet) (answer sheet) (rw is (h .1 .1)) (rw is (ap isUndecided (h .1 .2)))
 
-pub demand-2 : Demand2
-demand-2 sheet =
+pub sheet-demand-2 : (sheet : List ℕ) → SheetDemand2 sheet
+sheet-demand-2 sheet =
     record {
       answered = λ bytes h. (let got = answered sheet bytes h in rw (← got .1) (answer-to sheet (got .0)));
       seventeen = (only-17 sheet, when-17 sheet);

@@ -1,10 +1,10 @@
--- `text::put` meets its contract: the part that was copied into, back in its place.
+-- `overlay::put` meets its contract: the part that was copied into, back in its place.
 -- Assumes nothing.
 use borrow.Author.Needs.{needs}
 use denote.Ref.{now}
-use Rattle.text.proofs.Overlay.{put-back}
-use Rattle.text.proofs.put.Statement.{statement}
-use Rattle.text.proofs.put.Tie as tie
+use Rattle.overlay.proofs.Overlay.{put-back}
+use Rattle.overlay.proofs.put.Statement.{statement}
+use Rattle.overlay.proofs.put.Tie as tie
 
 sub-copy : tie.Need-sub-copy
 sub-copy c = search needs

@@ -7,8 +7,7 @@ use native.Mathlib.Nat.{add-zero}
 use native.Mathlib.Omega.{arith}
 use lib.ListN.{length, take, drop, length-append, length-take, length-drop, take-append-drop}
 use lib.Seq.{length-take-le, take-at, take-all, take-length, drop-length, drop-append-add, drop-drop}
-use Rattle.io.specs.Counts.{Counts}
-use Rattle.text.specs.Text.{overlay, Written}
+use Rattle.overlay.specs.Overlay.{overlay, Written}
 
 -- one piece after another is the two as one piece
 overlay-more : (b : List ℕ) (at : ℕ) (v w : List ℕ) → at + length v ≤ length b → overlay (overlay b at v) (at + length v) w ≡ overlay b at (v ++ w)
@@ -42,7 +41,3 @@ then {b} {v} {c} {w} {d} {at} {e} {f} first fits second =
       end = omega (arith, first .end, second .end, length-append v w);
       bytes = second .bytes ∙ rw (first .bytes, first .end) (overlay-more b at v w (omega (arith, first .end)));
     }
-
--- a place within the bytes counts them
-pub counts : (e : ℕ) (c : List ℕ) → e ≤ length c → Counts e c
-counts e c within = (within, sym (length-take-le e c within))

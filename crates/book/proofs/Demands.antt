@@ -1,0 +1,46 @@
+-- The three demands, as `specs/Demands.antt` states them.
+-- Assumes nothing.
+use mathlib.Core.Path.{_≡_, refl, ap}
+use mathlib.Core.List.{List, []}
+use Prim.Native.Nat.{ℕ}
+use Prim.Native.Nat.{_<_}
+use native.Mathlib.Omega.{arith}
+use lib.ListN.{length}
+use borrow.Author.Tests.{eqb-true, not-false}
+use Rattle.refusals.specs.Cases.{NoneHolds}
+use Rattle.refusals.specs.Response.{complete, after}
+use Rattle.refusals.proofs.Response.{first-or-complete, completed}
+use Rattle.sheet.specs.Answer.{answer}
+use Rattle.sheet.specs.Refusals.{cases, responseTo}
+use Rattle.book.specs.Layout.{standard}
+use Rattle.book.specs.Book.{storedSheet, storedAnswer, newBook, withEntry}
+use Rattle.book.specs.Refusals.{makingCases, filingCases, readingCases, making, filing}
+use Rattle.book.specs.Demands.{Demand1, Demand2, Demand3}
+use Rattle.book.proofs.Filing.{Proper}
+use Rattle.book.proofs.Sheets.{sheet-demand-2, demand-3 as sheet-demand-3}
+use Rattle.book.proofs.ReadingBack.{reads-back}
+
+pub demand-1 : Demand1
+demand-1 =
+    record {
+      of-sheets = λ sheet. first-or-complete (cases sheet) (answer sheet);
+      of-making = λ l book c. first-or-complete (makingCases l book c) [];
+      of-filing = λ l book sheet. first-or-complete (filingCases l book sheet) (answer sheet);
+      of-reading = λ l book e. first-or-complete (readingCases l book e) _;
+      filing-refused = λ l book sheet n h. ap (λ r. after r (withEntry l book sheet) book) h;
+      making-refused = λ l book c n h. ap (λ r. after r (newBook l c) book) h;
+    }
+
+-- a sheet of 01 that is answered has 24 bytes
+sheet-size : (sheet bytes : List ℕ) → responseTo sheet ≡ complete bytes → length sheet ≡ 24
+unfolding NoneHolds
+sheet-size sheet bytes h = eqb-true _ _ (not-false _ (completed (cases sheet) (answer sheet) bytes h .0 .0))
+
+standard-proper : Proper standard
+standard-proper = record { fits = omega arith; slot = sheet-size }
+
+pub demand-2 : Demand2
+demand-2 = (sheet-demand-2, reads-back standard standard-proper)
+
+pub demand-3 : Demand3
+demand-3 = sheet-demand-3

@@ -1,0 +1,175 @@
+-- What filing keeps and what it adds, for any layout.
+-- Assumes nothing.
+use mathlib.Core.Path.{_≡_, refl, sym, ap, _∙_}
+use mathlib.Core.Bool.{true, false, not, _||_}
+use mathlib.Core.List.{List, [], _∷_, _++_}
+use Prim.Native.Nat.{ℕ, suc, _+_, _*_, _^_, _≤_, _<_}
+use native.Mathlib.Nat.{mul-le-mul-left}
+use native.Mathlib.Omega.{arith}
+use lib.Dec.{ltb, eqb}
+use lib.ListN.{length, replicate, length-replicate}
+use lib.Seq.{take-all}
+use borrow.Author.Tests.{ltb-false, le-ltb, eqb-true, eqb-false, eq-eqb, not-false}
+use Rattle.overlay.specs.Overlay.{part, overlay}
+use Rattle.overlay.proofs.Parts.{length-overlay, part-at, part-before, part-after}
+use Rattle.refusals.specs.Cases.{NoneHolds}
+use Rattle.refusals.specs.Response.{Response, refused, complete, after}
+use Rattle.refusals.proofs.Response.{later, completed}
+use Rattle.sheet.specs.Bytes.{bigEndian, bytesOf}
+use Rattle.sheet.specs.Answer.{encoded, answer}
+use Rattle.sheet.specs.Refusals.{cases, responseTo}
+use Rattle.sheet.proofs.Inside.{or-false-both}
+use Rattle.book.specs.declared.layout.Layout.{Layout}
+use Rattle.book.specs.Layout.{answerSize, countAt, header, sheetAt, answerAt, bytesFor}
+use Rattle.book.specs.Book.{capacity, count, storedSheet, storedAnswer, newBook, withEntry}
+use Rattle.book.specs.Refusals.{wrongSize, bookCases, filingCases, filing, filed}
+use Rattle.book.proofs.Numbers.{same-number, length-bytes, number-bytes, number-zeros}
+
+-- what the law asks of a layout: a count fits its bytes, and an answered sheet its slot
+pub record Proper (l : Layout) : Type 0 where
+  pub fits : l .largest < 256 ^ l .width
+  pub slot : (sheet bytes : List ℕ) → responseTo sheet ≡ complete bytes → length sheet ≡ l .sheet
+
+-- a book of which neither 31 nor 32 holds
+pub record Sound (l : Layout) (b : List ℕ) : Type 0 where
+  pub some : 1 ≤ capacity l b
+  pub most : capacity l b ≤ l .largest
+  pub size : length b ≡ bytesFor l (capacity l b)
+  pub counted : count l b ≤ capacity l b
+
+length-answer : (sheet : List ℕ) → length (answer sheet) ≡ answerSize
+unfolding encoded bytesOf
+length-answer sheet = refl
+
+module _ (l : Layout) where
+  pub right-size : (size c : ℕ) → wrongSize l size c ≡ false → (1 ≤ c) × (c ≤ l .largest) × (size ≡ bytesFor l c)
+  right-size size c e =
+      let parts = or-false-both (ltb size (header l)) _ e in
+      let rest = or-false-both (ltb c 1 || ltb (l .largest) c) _ (parts .1) in
+      let ends = or-false-both (ltb c 1) _ (rest .0) in
+      (ltb-false _ _ (ends .0), ltb-false _ _ (ends .1), eqb-true _ _ (not-false _ (rest .1)))
+
+  pub sound : (b : List ℕ) → NoneHolds (bookCases l b) → Sound l b
+  unfolding NoneHolds
+  sound b none =
+      let known = right-size (length b) (capacity l b) (none .0) in
+      record { some = known .0; most = known .1; size = known .2; counted = ltb-false _ _ (none .1 .0) }
+
+  pub unrefused : (b : List ℕ) → Sound l b → NoneHolds (bookCases l b)
+  unfolding NoneHolds
+  unrefused b is =
+      let head : ltb (length b) (header l) ≡ false = le-ltb (length b) (header l) (omega (arith, is .size)) in
+      (rw (head, le-ltb (capacity l b) 1 (is .some), le-ltb (l .largest) (capacity l b) (is .most), eq-eqb (length b) (bytesFor l (capacity l b)) (is .size)), (le-ltb (capacity l b) (count l b) (is .counted), tt))
+
+  pub new-sound : (c : ℕ) → Proper l → 1 ≤ c → c ≤ l .largest → Sound l (newBook l c)
+  unfolding newBook
+  new-sound c proper some most =
+      let zeros : List ℕ = replicate (bytesFor l c) 0 in
+      let bytes : List ℕ = bytesOf (l .width) c in
+      let size : length zeros ≡ bytesFor l c = length-replicate (bytesFor l c) 0 in
+      let width : length bytes ≡ l .width = length-bytes (l .width) c in
+      let there : part (newBook l c) (l .lead) (l .width) ≡ bytes = rw width at (part-at zeros (l .lead) bytes (omega (arith, size))) in
+      let whole : part bytes 0 (l .width) ≡ bytes = take-all (l .width) bytes (omega (arith, width)) in
+      let cap : capacity l (newBook l c) ≡ c = same-number (newBook l c) bytes (l .lead) 0 (l .width) (there ∙ sym whole) ∙ number-bytes (l .width) c (omega (arith, proper .fits)) in
+      let none : count l (newBook l c) ≡ 0 =
+      same-number (newBook l c) zeros (countAt l) (countAt l) (l .width) (part-after zeros (l .lead) bytes (countAt l) (l .width) (omega (arith, width)) (omega (arith, size)))
+      ∙ number-zeros (bytesFor l c) (countAt l) (l .width) (omega arith) in
+      record {
+        some = rw cap some;
+        most = rw cap most;
+        size = rw cap (length-overlay zeros (l .lead) bytes (omega (arith, size, width)) ∙ size);
+        counted = rw (cap, none) (omega arith);
+      }
+
+  -- a book's filing of a sheet that fits, in parts
+  module _ (proper : Proper l) (b sheet : List ℕ) (is : Sound l b) (room : count l b < capacity l b) (slot : length sheet ≡ l .sheet) where
+    abbrev n : ℕ
+    n = count l b
+
+    abbrev c : ℕ
+    c = capacity l b
+
+    abbrev b₁ : List ℕ
+    b₁ = overlay b (sheetAt l n) sheet
+
+    abbrev b₂ : List ℕ
+    b₂ = overlay b₁ (answerAt l c n) (answer sheet)
+
+    -- the slots of both arrays end within the book
+    slots : l .sheet * suc n ≤ l .sheet * c
+    slots = mul-le-mul-left (l .sheet) room
+
+    length₁ : length b₁ ≡ length b
+    length₁ = length-overlay b (sheetAt l n) sheet (omega (arith, slots, is .size, slot))
+
+    length₂ : length b₂ ≡ length b
+    length₂ = length-overlay b₁ (answerAt l c n) (answer sheet) (omega (arith, slots, is .size, length₁, length-answer sheet)) ∙ length₁
+
+    length₃ : length (withEntry l b sheet) ≡ length b
+    unfolding withEntry
+    length₃ = length-overlay b₂ (countAt l) (bytesOf (l .width) (n + 1)) (omega (arith, is .size, length₂, length-bytes (l .width) (n + 1))) ∙ length₂
+
+    -- the bytes before the count
+    front : part (withEntry l b sheet) (l .lead) (l .width) ≡ part b (l .lead) (l .width)
+    unfolding withEntry
+    front =
+        part-before b₂ (countAt l) (bytesOf (l .width) (n + 1)) (l .lead) (l .width) (omega arith) (omega (arith, is .size, length₂))
+        ∙ part-before b₁ (answerAt l c n) (answer sheet) (l .lead) (l .width) (omega arith) (omega (arith, slots, is .size, length₁))
+        ∙ part-before b (sheetAt l n) sheet (l .lead) (l .width) (omega arith) (omega (arith, slots, is .size))
+
+    -- behind the count, what the two arrays hold
+    behind : (p k : ℕ) → header l ≤ p → part (withEntry l b sheet) p k ≡ part b₂ p k
+    unfolding withEntry
+    behind p k le = part-after b₂ (countAt l) (bytesOf (l .width) (n + 1)) p k (omega (arith, length-bytes (l .width) (n + 1))) (omega (arith, is .size, length₂))
+
+    pub same-capacity : capacity l (withEntry l b sheet) ≡ c
+    same-capacity = same-number (withEntry l b sheet) b (l .lead) (l .lead) (l .width) front
+
+    pub raised : count l (withEntry l b sheet) ≡ n + 1
+    unfolding withEntry
+    raised =
+        let size : length (bytesOf (l .width) (n + 1)) ≡ l .width = length-bytes (l .width) (n + 1) in
+        let there : part (withEntry l b sheet) (countAt l) (l .width) ≡ bytesOf (l .width) (n + 1) = rw size at (part-at b₂ (countAt l) (bytesOf (l .width) (n + 1)) (omega (arith, is .size, length₂))) in
+        let whole : part (bytesOf (l .width) (n + 1)) 0 (l .width) ≡ bytesOf (l .width) (n + 1) = take-all (l .width) (bytesOf (l .width) (n + 1)) (omega (arith, size)) in
+        same-number (withEntry l b sheet) (bytesOf (l .width) (n + 1)) (countAt l) 0 (l .width) (there ∙ sym whole)
+        ∙ number-bytes (l .width) (n + 1) (omega (arith, proper .fits, is .most))
+
+    pub still-sound : Sound l (withEntry l b sheet)
+    still-sound =
+        record {
+          some = rw same-capacity (is .some);
+          most = rw same-capacity (is .most);
+          size = rw same-capacity (length₃ ∙ is .size);
+          counted = rw (same-capacity, raised) (omega arith);
+        }
+
+    -- the new entry
+    pub new-sheet : storedSheet l (withEntry l b sheet) n ≡ sheet
+    new-sheet =
+        behind (sheetAt l n) (l .sheet) (omega arith)
+        ∙ part-before b₁ (answerAt l c n) (answer sheet) (sheetAt l n) (l .sheet) (omega (arith, slots)) (omega (arith, slots, is .size, length₁))
+        ∙ (rw slot at (part-at b (sheetAt l n) sheet (omega (arith, slots, is .size))))
+
+    pub new-answer : storedAnswer l (withEntry l b sheet) n ≡ answer sheet
+    new-answer =
+        rw same-capacity
+        (behind (answerAt l c n) answerSize (omega arith)
+        ∙ (rw (length-answer sheet) at (part-at b₁ (answerAt l c n) (answer sheet) (omega (arith, slots, is .size, length₁)))))
+
+    -- an entry that was there
+    module _ (e : ℕ) (there : e < n) where
+      earlier : l .sheet * suc e ≤ l .sheet * n
+      earlier = mul-le-mul-left (l .sheet) there
+
+      pub same-sheet : storedSheet l (withEntry l b sheet) e ≡ storedSheet l b e
+      same-sheet =
+          behind (sheetAt l e) (l .sheet) (omega arith)
+          ∙ part-before b₁ (answerAt l c n) (answer sheet) (sheetAt l e) (l .sheet) (omega (arith, slots, earlier)) (omega (arith, slots, is .size, length₁))
+          ∙ part-before b (sheetAt l n) sheet (sheetAt l e) (l .sheet) (omega (arith, earlier)) (omega (arith, slots, is .size))
+
+      pub same-answer : storedAnswer l (withEntry l b sheet) e ≡ storedAnswer l b e
+      same-answer =
+          rw same-capacity
+          (behind (answerAt l c e) answerSize (omega arith)
+          ∙ part-before b₁ (answerAt l c n) (answer sheet) (answerAt l c e) answerSize (omega (arith, slots)) (omega (arith, slots, is .size, length₁))
+          ∙ part-after b (sheetAt l n) sheet (answerAt l c e) answerSize (omega (arith, slots, slot)) (omega (arith, slots, is .size)))

@@ -1,0 +1,5 @@
+pub mod Numbers
+pub mod Filing
+pub mod Sheets
+pub mod ReadingBack
+pub mod Demands

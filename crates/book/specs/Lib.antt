@@ -1,0 +1,4 @@
+pub mod Layout
+pub mod Book
+pub mod Refusals
+pub mod Demands

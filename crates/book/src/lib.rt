@@ -1,0 +1,2 @@
+// A book over lent bytes: made new, filed in, read.
+pub mod layout;
