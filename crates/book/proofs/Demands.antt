@@ -16,7 +16,7 @@ use Rattle.book.specs.Layout.{standard}
 use Rattle.book.specs.Book.{storedSheet, storedAnswer, newBook, withEntry}
 use Rattle.book.specs.Refusals.{makingCases, filingCases, readingCases, making, filing}
 use Rattle.book.specs.Demands.{Demand1, Demand2, Demand3}
-use Rattle.book.proofs.Filing.{Proper}
+use Rattle.book.proofs.Standard.{standard-usable}
 use Rattle.book.proofs.Sheets.{sheet-demand-2, demand-3 as sheet-demand-3}
 use Rattle.book.proofs.ReadingBack.{reads-back}
 
@@ -31,16 +31,8 @@ demand-1 =
       making-refused = λ l book c n h. ap (λ r. after r (newBook l c) book) h;
     }
 
--- a sheet of 01 that is answered has 24 bytes
-sheet-size : (sheet bytes : List ℕ) → responseTo sheet ≡ complete bytes → length sheet ≡ 24
-unfolding NoneHolds
-sheet-size sheet bytes h = eqb-true _ _ (not-false _ (completed (cases sheet) (answer sheet) bytes h .0 .0))
-
-standard-proper : Proper standard
-standard-proper = record { fits = omega arith; slot = sheet-size }
-
 pub demand-2 : Demand2
-demand-2 = (sheet-demand-2, reads-back standard standard-proper)
+demand-2 = (sheet-demand-2, reads-back standard standard-usable)
 
 pub demand-3 : Demand3
 demand-3 = sheet-demand-3

@@ -1,5 +1,8 @@
-pub mod Numbers
-pub mod Filing
+pub mod Numerals
+pub mod Sameness
+pub mod Entries
+pub mod Examined
+pub mod Standard
 pub mod Sheets
 pub mod ReadingBack
 pub mod Demands

@@ -16,15 +16,12 @@ use Rattle.sheet.specs.Refusals.{cases, responseTo}
 use Rattle.book.specs.declared.layout.Layout.{Layout}
 use Rattle.book.specs.Book.{capacity, count, storedSheet, storedAnswer, newBook, withEntry}
 use Rattle.book.specs.Refusals.{sameBytes, gives, makingCases, filingCases, readingCases, making, made, filing, filed, reading}
+use Rattle.book.specs.Usable.{Usable}
 use Rattle.book.specs.Demands.{filedAll, ReadsBack}
-use Rattle.book.proofs.Filing.{Proper, Sound, right-size, new-sound, sound, unrefused, still-sound, raised, new-sheet, new-answer, same-sheet, same-answer}
+use Rattle.book.proofs.Sameness.{same-self}
+use Rattle.book.proofs.Entries.{Sound, right-size, new-sound, sound, unrefused, still-sound, raised, new-sheet, new-answer, same-sheet, same-answer}
 
-pub same-self : (bytes : List ℕ) → sameBytes bytes bytes ≡ true
-unfolding sameBytes
-same-self [] = refl
-same-self (x ∷ xs) = rw (eq-eqb x x refl, same-self xs)
-
-module _ (l : Layout) (proper : Proper l) where
+module _ (l : Layout) (usable : Usable l) where
   -- a sound book with this sheet and these bytes as entry e
   record Holds (e : ℕ) (sheet bytes book : List ℕ) : Type 0 where
     is : Sound l book
@@ -48,7 +45,7 @@ module _ (l : Layout) (proper : Proper l) where
       let is = sound l book (none .0, (none .1 .0, tt)) in
       let free : ¬ (count l book ≡ capacity l book) = eqb-false _ _ (none .1 .1 .0) in
       let answered = none-holds (cases sheet) (answer sheet) (none .1 .1 .1) ∙ ap complete (got .1) in
-      record { is = is; room = omega (arith, is .counted); answered = answered; same = got .1; slot = proper .slot sheet bytes answered }
+      record { is = is; room = omega (arith, is .counted); answered = answered; same = got .1; slot = usable .filled sheet bytes answered }
 
   -- what holds of every book that filings make of a sound one
   kept : (P : List ℕ → Type 0) → ((book sheet bytes : List ℕ) → P book → Complete book sheet bytes → P (withEntry l book sheet)) → (sheets : List (List ℕ)) (book : List ℕ) → P book → P (filedAll l book sheets)
@@ -61,24 +58,24 @@ module _ (l : Layout) (proper : Proper l) where
       go (complete bytes) h = more book sheet bytes p (complete-filing book sheet bytes h)
 
   sound-kept : (book sheet bytes : List ℕ) → Sound l book → Complete book sheet bytes → Sound l (withEntry l book sheet)
-  sound-kept book sheet bytes is new = still-sound l proper book sheet is (new .room) (new .slot)
+  sound-kept book sheet bytes is new = still-sound l usable book sheet is (new .room) (new .slot)
 
   entry-kept : (e : ℕ) (s a : List ℕ) (book sheet bytes : List ℕ) → Holds e s a book → Complete book sheet bytes → Holds e s a (withEntry l book sheet)
   entry-kept e s a book sheet bytes h new =
       record {
-        is = still-sound l proper book sheet (h .is) (new .room) (new .slot);
-        below = rw (raised l proper book sheet (h .is) (new .room) (new .slot)) (omega (arith, h .below));
-        sheet-there = same-sheet l proper book sheet (h .is) (new .room) (new .slot) e (h .below) ∙ h .sheet-there;
-        answer-there = same-answer l proper book sheet (h .is) (new .room) (new .slot) e (h .below) ∙ h .answer-there;
+        is = still-sound l usable book sheet (h .is) (new .room) (new .slot);
+        below = rw (raised l usable book sheet (h .is) (new .room) (new .slot)) (omega (arith, h .below));
+        sheet-there = same-sheet l usable book sheet (h .is) (new .room) (new .slot) e (h .below) ∙ h .sheet-there;
+        answer-there = same-answer l usable book sheet (h .is) (new .room) (new .slot) e (h .below) ∙ h .answer-there;
       }
 
   entry-new : (book sheet bytes : List ℕ) → Complete book sheet bytes → Holds (count l book) sheet bytes (withEntry l book sheet)
   entry-new book sheet bytes new =
       record {
-        is = still-sound l proper book sheet (new .is) (new .room) (new .slot);
-        below = rw (raised l proper book sheet (new .is) (new .room) (new .slot)) (omega arith);
-        sheet-there = new-sheet l proper book sheet (new .is) (new .room) (new .slot);
-        answer-there = new-answer l proper book sheet (new .is) (new .room) (new .slot) ∙ new .same;
+        is = still-sound l usable book sheet (new .is) (new .room) (new .slot);
+        below = rw (raised l usable book sheet (new .is) (new .room) (new .slot)) (omega arith);
+        sheet-there = new-sheet l usable book sheet (new .is) (new .room) (new .slot);
+        answer-there = new-answer l usable book sheet (new .is) (new .room) (new .slot) ∙ new .same;
       }
 
   reads : (e : ℕ) (sheet bytes book : List ℕ) → responseTo sheet ≡ complete bytes → Holds e sheet bytes book → reading l book e ≡ complete (sheet ++ bytes)
@@ -94,7 +91,7 @@ module _ (l : Layout) (proper : Proper l) where
   new-book lent c h =
       let none = completed (makingCases l lent c) [] [] h .0 in
       let fits = right-size l (length lent) c (none .0) in
-      rw h (new-sound l c proper (fits .0) (fits .1))
+      rw h (new-sound l c usable (fits .0) (fits .1))
 
   pub reads-back : ReadsBack l
   reads-back lent c made-so before sheet bytes filed-so later =

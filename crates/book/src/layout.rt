@@ -1,6 +1,9 @@
 // Where a book keeps what.
 ghost use mathlib.Core.Path.{_≡_};
-ghost use Rattle.book.specs.Layout.{standard as Layout·standard};
+ghost use Prim.Native.Nat.{_≤_};
+ghost use Rattle.book.specs.Layout.{standard as Layout·standard, header as Layout·header, sheetAt, answerAt};
+ghost use Rattle.book.specs.Refusals.{wrongSize};
+ghost use Rattle.book.specs.Usable.{Usable};
 
 // The bytes before the sizes, the bytes of a size, the largest capacity, and the bytes of a sheet.
 pub struct Layout {
@@ -11,7 +14,7 @@ pub struct Layout {
 }
 
 impl Layout {
-    pub fn standard() -> Layout
+    pub(crate) fn standard() -> Layout
         ensures { λ r. ⌜ r ≡ Layout·standard ⌝ }
     {
         Layout {
@@ -20,5 +23,41 @@ impl Layout {
             largest: 1_000,
             sheet: 24,
         }
+    }
+
+    // Where the sizes end.
+    pub(crate) fn header(self) -> usize
+        requires { ⌜ Usable self ⌝ }
+        ensures { λ r. ⌜ r ≡ Layout·header self ⌝ }
+    {
+        self.lead + self.width + self.width
+    }
+
+    // Where slot e of the sheets starts, and slot e of the answers in a book of this capacity.
+    pub(crate) fn sheet_at(self, e: u64) -> usize
+        requires { ⌜ Usable self × (e ≤ self .largest) ⌝ }
+        ensures { λ r. ⌜ r ≡ sheetAt self e ⌝ }
+    {
+        self.header() + self.sheet * e as usize
+    }
+
+    pub(crate) fn answer_at(self, capacity: u64, e: u64) -> usize
+        requires { ⌜ Usable self × (capacity ≤ self .largest) × (e ≤ capacity) ⌝ }
+        ensures { λ r. ⌜ r ≡ answerAt self capacity e ⌝ }
+    {
+        self.sheet_at(capacity) + 8 * e as usize
+    }
+
+    // Whether bytes of this length are no book of this capacity.
+    pub(crate) fn wrong_size(self, size: usize, capacity: u64) -> bool
+        requires { ⌜ Usable self ⌝ }
+        ensures { λ r. ⌜ r ≡ wrongSize self size capacity ⌝ }
+    {
+        let short = size < self.header();
+        let outside = (capacity < 1) | (self.largest < capacity);
+        if short | outside {
+            return true;
+        }
+        size != self.answer_at(capacity, capacity)
     }
 }

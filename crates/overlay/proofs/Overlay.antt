@@ -1,12 +1,12 @@
 -- Laws of bytes put over bytes.
 -- Assumes nothing.
 use mathlib.Core.Path.{_≡_, sym, ap, _∙_}
-use mathlib.Core.List.{List, [], _++_, append-assoc, append-nil}
-use Prim.Native.Nat.{ℕ, _+_, _-_, _≤_}
+use mathlib.Core.List.{List, [], _∷_, _++_, append-assoc, append-nil}
+use Prim.Native.Nat.{ℕ, suc, _+_, _-_, _≤_}
 use native.Mathlib.Nat.{add-zero}
 use native.Mathlib.Omega.{arith}
-use lib.ListN.{length, take, drop, length-append, length-take, length-drop, take-append-drop}
-use lib.Seq.{length-take-le, take-at, take-all, take-length, drop-length, drop-append-add, drop-drop}
+use lib.ListN.{length, getD, take, drop, set, length-append, length-take, length-drop, take-append-drop}
+use lib.Seq.{length-take-le, take-suc, append-snoc, set-at, take-at, take-all, take-length, drop-length, drop-append-add, drop-drop}
 use Rattle.overlay.specs.Overlay.{overlay, Written}
 
 -- one piece after another is the two as one piece
@@ -29,6 +29,17 @@ put-back b at v part fits e =
     let size : length (drop at b) ≡ length b - at = length-drop at b in
     let rest : drop (length b - at) (drop at b) ≡ [] = ap (λ (k : ℕ). drop k (drop at b)) (sym size) ∙ drop-length (drop at b) in
     rw (e, rest, append-nil, take-length, take-all (length b - at) (drop at b) (omega arith), drop-drop, ← append-assoc)
+
+-- one byte in front of a piece
+pub overlay-first : (b : List ℕ) (at x : ℕ) (v : List ℕ) → suc at + length v ≤ length b → set (overlay b (suc at) v) at x ≡ overlay b at (x ∷ v)
+unfolding overlay
+overlay-first b at x v fits =
+    let rest : List ℕ = v ++ drop (suc at + length v) b in
+    let front : take (suc at) b ≡ take at b ++ (getD b at 0 ∷ []) = take-suc b at 0 (omega arith) in
+    let size : length (take at b) ≡ at = length-take-le at b (omega arith) in
+    let count : at + suc (length v) ≡ suc at + length v = omega arith in
+    rw (append-assoc (take (suc at) b) v (drop (suc at + length v) b), front, append-snoc (take at b) (getD b at 0) rest, set-at (take at b) (getD b at 0) rest x at size, count)
+    (sym (append-assoc (take at b) (x ∷ v) (drop (suc at + length v) b)))
 
 -- no piece at all, and one piece after another
 pub nothing : (b : List ℕ) (at : ℕ) → Written b at [] b at

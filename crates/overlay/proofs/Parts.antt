@@ -1,18 +1,25 @@
 -- Parts of bytes that other bytes were put over.
 -- Assumes nothing.
 use mathlib.Core.Path.{_≡_, refl, sym, ap, _∙_}
-use mathlib.Core.List.{List, [], _++_, append-assoc}
+use mathlib.Core.List.{List, [], _++_, append-assoc, append-nil}
 use Prim.Native.Nat.{ℕ, _+_, _-_, _≤_}
 use native.Mathlib.Nat.{add-sub-of-le}
 use native.Mathlib.Omega.{arith}
 use lib.ListN.{length, take, drop, length-append, length-take, length-drop, take-append-drop}
-use lib.Seq.{length-take-le, take-append-seam, take-append-le, drop-append-le, drop-append-add, drop-at, drop-drop}
+use lib.Seq.{length-take-le, take-length, drop-length, take-append-seam, take-append-le, drop-append-le, drop-append-add, drop-at, drop-drop}
 use Rattle.overlay.specs.Overlay.{part, overlay}
 
 -- a part of the front of two runs
 part-front : (xs ys : List ℕ) (p n : ℕ) → p + n ≤ length xs → part (xs ++ ys) p n ≡ part xs p n
 part-front xs ys p n within =
     rw (drop-append-le p xs ys (omega arith)) (take-append-le n (drop p xs) ys (omega (arith, length-drop p xs)))
+
+pub length-part : (b : List ℕ) (at n : ℕ) → at + n ≤ length b → length (part b at n) ≡ n
+length-part b at n within = length-take-le n (drop at b) (omega (arith, length-drop at b))
+
+-- what `bytes::copy` leaves of a run of the same length
+pub copied : (v w : List ℕ) → length v ≡ length w → take (length v) v ++ drop (length v) w ≡ v
+copied v w same = rw (take-length v, same, drop-length w, append-nil)
 
 module _ (b : List ℕ) (at : ℕ) (v : List ℕ) where
   pub length-overlay : at + length v ≤ length b → length (overlay b at v) ≡ length b

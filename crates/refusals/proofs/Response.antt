@@ -73,6 +73,19 @@ abbrev isRefused : Response → Bool
 isRefused (refused n) = true
 isRefused (complete bytes) = false
 
+-- A refusal by the cases in front.
+pub in-front : (cs ds : List Case) (x y : List ℕ) (n : ℕ) → respond cs x ≡ refused n → respond (cs ++ ds) y ≡ refused n
+unfolding respond
+in-front [] ds x y n = λ e. absurd (false≢true (ap isRefused e))
+in-front (c ∷ cs) ds x y n = go (c .holds) (in-front cs ds x y n)
+  where
+    go :
+        (b : Bool) → (respond cs x ≡ refused n → respond (cs ++ ds) y ≡ refused n) →
+        (elim b as (λ _. Response) [ true ↦ refused (c .number) | false ↦ respond cs x ]) ≡ refused n →
+        (elim b as (λ _. Response) [ true ↦ refused (c .number) | false ↦ respond (cs ++ ds) y ]) ≡ refused n
+    go true rest e = e
+    go false rest e = rest e
+
 -- A complete response: no case holds.
 pub completed : (cs : List Case) (bytes a : List ℕ) → respond cs bytes ≡ complete a → NoneHolds cs × (bytes ≡ a)
 unfolding NoneHolds respond

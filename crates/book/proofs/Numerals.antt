@@ -1,12 +1,13 @@
 -- Numbers in the bytes of a book.
 -- Assumes nothing.
 use mathlib.Core.Path.{_≡_, refl, sym, ap, _∙_}
-use mathlib.Core.List.{List}
+use mathlib.Core.List.{List, [], _∷_, _++_}
 use Prim.Native.Nat.{ℕ, zero, suc, _+_, _*_, _/_, _%_, _^_, _≤_, _<_}
-use native.Mathlib.Nat.{pow-suc, div-one, add-zero, add-suc, suc-add, zero-add, le-refl, div-eq-of-lt, div-div-eq-div-mul, div-add-mod'}
+use native.Mathlib.Nat.{pow-suc, pow-le-pow-right, div-one, add-zero, add-suc, suc-add, zero-add, le-refl, div-eq-of-lt, div-div-eq-div-mul, div-add-mod'}
+use native.Mathlib.Numerals.{add-one}
 use native.Mathlib.Omega.{arith}
-use lib.ListN.{length, getD, drop, replicate, getD-replicate}
-use lib.Seq.{getD-take, getD-drop}
+use lib.ListN.{length, getD, drop, set, replicate, length-replicate, getD-replicate, replicate-append-replicate}
+use lib.Seq.{getD-take, getD-drop, drop-cons, set-at, append-snoc}
 use Rattle.overlay.specs.Overlay.{part}
 use Rattle.sheet.specs.Bytes.{bigEndian, bytesOf}
 
@@ -53,3 +54,15 @@ unfolding bigEndian
 number-zeros size at zero within = refl
 number-zeros size at (suc n) within =
     rw (number-zeros size at n (omega arith), getD-replicate {A = ℕ} size (at + n) 0 0 (omega arith))
+
+-- a number below a power of 256 that has no more than three digits
+pub below-power : (i n : ℕ) → i < 4 → n < 256 ^ i → n < 16_777_216
+below-power i n lt below = omega (arith, pow-le-pow-right {n = 256} (omega arith) {i = i} {j = 3} (omega arith))
+
+-- zeros up to the next byte
+pub zeros-more : (b : List ℕ) (i : ℕ) → i < length b → set (replicate i 0 ++ drop i b) i 0 ≡ replicate (suc i) 0 ++ drop (suc i) b
+zeros-more b i lt =
+    let zeros : List ℕ = replicate i 0 in
+    let more : replicate (suc i) 0 ≡ zeros ++ (0 ∷ []) = sym (replicate-append-replicate i 1 0 ∙ ap (λ (k : ℕ). replicate k 0) (add-one i)) in
+    let next : set (zeros ++ drop i b) i 0 ≡ zeros ++ 0 ∷ drop (suc i) b = rw (drop-cons b i 0 lt) (set-at zeros (getD b i 0) (drop (suc i) b) 0 i (length-replicate i 0)) in
+    next ∙ sym (append-snoc zeros 0 (drop (suc i) b)) ∙ ap (λ (x : List ℕ). x ++ drop (suc i) b) (sym more)
