@@ -1,22 +1,16 @@
 -- The three demands, as `specs/Demands.antt` states them.
 -- Assumes nothing.
-use mathlib.Core.Path.{_≡_, refl, ap}
-use mathlib.Core.List.{List, []}
-use Prim.Native.Nat.{ℕ}
-use Prim.Native.Nat.{_<_}
-use native.Mathlib.Omega.{arith}
-use lib.ListN.{length}
-use borrow.Author.Tests.{eqb-true, not-false}
-use Rattle.refusals.specs.Cases.{NoneHolds}
-use Rattle.refusals.specs.Response.{complete, after}
-use Rattle.refusals.proofs.Response.{first-or-complete, completed}
+use mathlib.Core.Path.{ap}
+use mathlib.Core.List.{[]}
+use Rattle.refusals.specs.Response.{after}
+use Rattle.refusals.proofs.Response.{first-or-complete}
 use Rattle.sheet.specs.Answer.{answer}
-use Rattle.sheet.specs.Refusals.{cases, responseTo}
-use Rattle.book.specs.Layout.{standard}
-use Rattle.book.specs.Book.{storedSheet, storedAnswer, newBook, withEntry}
-use Rattle.book.specs.Refusals.{makingCases, filingCases, readingCases, making, filing}
+use Rattle.sheet.specs.Refusals.{cases}
+use Rattle.layout.specs.Layout.{standard}
+use Rattle.book.specs.Book.{newBook, withEntry}
+use Rattle.book.specs.Refusals.{makingCases, filingCases, readingCases}
 use Rattle.book.specs.Demands.{Demand1, Demand2, Demand3}
-use Rattle.book.proofs.Standard.{standard-usable}
+use Rattle.layout.proofs.Standard.{standard-usable}
 use Rattle.book.proofs.Sheets.{sheet-demand-2, demand-3 as sheet-demand-3}
 use Rattle.book.proofs.ReadingBack.{reads-back}
 

@@ -1,40 +1,25 @@
 -- What filing keeps and what it adds, for any layout.
 -- Assumes nothing.
-use mathlib.Core.Path.{_≡_, refl, sym, ap, _∙_}
-use mathlib.Core.Bool.{Bool, true, false, not, _||_, false≢true}
-use mathlib.Core.List.{List, [], _∷_, _++_}
-use Prim.Native.Nat.{ℕ, suc, _+_, _*_, _^_, _≤_, _<_}
+use mathlib.Core.Path.{_≡_, refl, sym, _∙_}
+use mathlib.Core.List.{List}
+use Prim.Native.Nat.{ℕ, suc, _+_, _*_, _≤_, _<_}
 use native.Mathlib.Nat.{mul-le-mul-left}
 use native.Mathlib.Omega.{arith}
-use lib.Dec.{ltb, eqb}
 use lib.ListN.{length, replicate, length-replicate}
 use lib.Seq.{take-all}
-use borrow.Author.Tests.{ltb-false, le-ltb, eqb-true, eqb-false, eq-eqb, not-false}
 use Rattle.overlay.specs.Overlay.{part, overlay}
 use Rattle.overlay.proofs.Parts.{length-overlay, part-at, part-before, part-after}
-use Rattle.refusals.specs.Cases.{NoneHolds}
-use Rattle.refusals.specs.Response.{Response, refused, complete, after}
-use Rattle.refusals.proofs.Response.{later, completed}
 use Rattle.sheet.specs.declared.encoding.Answer.{Answer}
-use Rattle.sheet.specs.Bytes.{bigEndian, bytesOf}
+use Rattle.sheet.specs.Bytes.{bytesOf}
 use Rattle.sheet.specs.Answer.{encoded, answer}
-use Rattle.sheet.specs.Refusals.{cases, responseTo}
-use Rattle.sheet.proofs.Inside.{or-false-both}
-use Rattle.book.specs.declared.layout.Layout.{Layout}
-use Rattle.book.specs.declared.examination.Sizes.{Sizes}
-use Rattle.book.specs.Examination.{sizesOf}
-use Rattle.book.specs.Layout.{answerSize, countAt, header, sheetAt, answerAt, bytesFor}
-use Rattle.book.specs.Book.{capacity, count, storedSheet, storedAnswer, newBook, withEntry}
-use Rattle.book.specs.Usable.{Usable}
-use Rattle.book.specs.Refusals.{wrongSize, bookCases, filingCases, filing, filed}
-use Rattle.book.proofs.Numerals.{same-number, length-bytes, number-bytes, number-zeros}
-
--- a book of which neither 31 nor 32 holds
-pub record Sound (l : Layout) (b : List ℕ) : Type 0 where
-  pub some : 1 ≤ capacity l b
-  pub most : capacity l b ≤ l .largest
-  pub size : length b ≡ bytesFor l (capacity l b)
-  pub counted : count l b ≤ capacity l b
+use Rattle.layout.specs.declared.places.Layout.{Layout}
+use Rattle.layout.specs.Layout.{answerSize, countAt, header, sheetAt, answerAt, bytesFor}
+use Rattle.layout.specs.Sizes.{capacity, count}
+use Rattle.book.specs.Book.{storedSheet, storedAnswer, newBook, withEntry}
+use Rattle.layout.proofs.Soundness.{Sound}
+use Rattle.layout.specs.Usable.{Usable}
+use Rattle.book.specs.Refusals.{filing}
+use Rattle.layout.proofs.Numerals.{same-number, length-bytes, number-bytes, number-zeros}
 
 pub length-encoded : (a : Answer) → length (encoded a) ≡ answerSize
 unfolding encoded bytesOf
@@ -43,45 +28,7 @@ length-encoded a = refl
 pub length-answer : (sheet : List ℕ) → length (answer sheet) ≡ answerSize
 length-answer sheet = length-encoded _
 
-or-more : (a b c : Bool) → a || b ≡ true → true ≡ a || (b || c)
-or-more true b c e = refl
-or-more false true c e = refl
-or-more false false c e = absurd (false≢true e)
-
 module _ (l : Layout) where
-  pub right-size : (size c : ℕ) → wrongSize l size c ≡ false → (1 ≤ c) × (c ≤ l .largest) × (size ≡ bytesFor l c)
-  right-size size c e =
-      let parts = or-false-both (ltb size (header l)) _ e in
-      let rest = or-false-both (ltb c 1 || ltb (l .largest) c) _ (parts .1) in
-      let ends = or-false-both (ltb c 1) _ (rest .0) in
-      (ltb-false _ _ (ends .0), ltb-false _ _ (ends .1), eqb-true _ _ (not-false _ (rest .1)))
-
-  -- the tests of 31 as the code makes them, h and a being the places that it works out
-  pub too-short : (size c h : ℕ) → h ≡ header l → ltb size h || (ltb c 1 || ltb (l .largest) c) ≡ true → true ≡ wrongSize l size c
-  too-short size c h is e = or-more (ltb size (header l)) (ltb c 1 || ltb (l .largest) c) (not (eqb size (bytesFor l c))) (rw is at e)
-
-  pub long-enough : (size c h a : ℕ) → h ≡ header l → a ≡ answerAt l c c → ltb size h || (ltb c 1 || ltb (l .largest) c) ≡ false → not (eqb size a) ≡ wrongSize l size c
-  long-enough size c h a is at-end e =
-      let parts = or-false-both (ltb size (header l)) (ltb c 1 || ltb (l .largest) c) (rw is at e) in
-      let all : a ≡ bytesFor l c = omega (arith, at-end) in
-      rw (parts .0, parts .1, all) refl
-
-  pub sound : (b : List ℕ) → NoneHolds (bookCases l b) → Sound l b
-  unfolding NoneHolds
-  sound b none =
-      let known = right-size (length b) (capacity l b) (none .0) in
-      record { some = known .0; most = known .1; size = known .2; counted = ltb-false _ _ (none .1 .0) }
-
-  -- the same of sizes that were read
-  pub sized : (b : List ℕ) (sizes : Sizes) → Sound l b → sizes ≡ sizesOf l b → (sizes .capacity ≤ l .largest) × (length b ≡ bytesFor l (sizes .capacity)) × (sizes .count ≤ sizes .capacity)
-  sized b sizes is e = rw e (is .most, is .size, is .counted)
-
-  pub unrefused : (b : List ℕ) → Sound l b → NoneHolds (bookCases l b)
-  unfolding NoneHolds
-  unrefused b is =
-      let head : ltb (length b) (header l) ≡ false = le-ltb (length b) (header l) (omega (arith, is .size)) in
-      (rw (head, le-ltb (capacity l b) 1 (is .some), le-ltb (l .largest) (capacity l b) (is .most), eq-eqb (length b) (bytesFor l (capacity l b)) (is .size)), (le-ltb (capacity l b) (count l b) (is .counted), tt))
-
   pub new-sound : (c : ℕ) → Usable l → 1 ≤ c → c ≤ l .largest → Sound l (newBook l c)
   unfolding newBook
   new-sound c usable some most =

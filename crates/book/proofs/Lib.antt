@@ -1,8 +1,7 @@
-pub mod Numerals
+pub mod Zeros
 pub mod Sameness
 pub mod Entries
-pub mod Examined
-pub mod Standard
+pub mod Responses
 pub mod Sheets
 pub mod ReadingBack
 pub mod Demands

@@ -1,25 +1,26 @@
 -- An entry filed in a new book reads back equal, for any layout: filing keeps every entry, and the new one is the sheet with its answer.
 -- Assumes nothing.
-use mathlib.Core.Path.{_≡_, refl, sym, ap, _∙_}
-use mathlib.Core.Bool.{Bool, true, false, not, _&&_}
+use mathlib.Core.Path.{_≡_, refl, ap, _∙_}
+use mathlib.Core.Bool.{false, not}
 use mathlib.Core.List.{List, [], _∷_, _++_}
-use Prim.Native.Nat.{ℕ, zero, _+_, _*_, _<_, _≤_}
+use Prim.Native.Nat.{ℕ, _+_, _<_}
 use native.Mathlib.Omega.{arith}
-use lib.Dec.{eqb}
-use lib.ListN.{length, replicate, length-replicate}
-use borrow.Author.Tests.{lt-leb, eqb-false, eq-eqb}
+use lib.ListN.{length}
+use borrow.Author.Tests.{lt-leb, eqb-false}
 use Rattle.refusals.specs.Cases.{NoneHolds}
 use Rattle.refusals.specs.Response.{Response, refused, complete, after}
 use Rattle.refusals.proofs.Response.{completed, none-holds}
 use Rattle.sheet.specs.Answer.{answer}
 use Rattle.sheet.specs.Refusals.{cases, responseTo}
-use Rattle.book.specs.declared.layout.Layout.{Layout}
-use Rattle.book.specs.Book.{capacity, count, storedSheet, storedAnswer, newBook, withEntry}
-use Rattle.book.specs.Refusals.{sameBytes, gives, makingCases, filingCases, readingCases, making, made, filing, filed, reading}
-use Rattle.book.specs.Usable.{Usable}
+use Rattle.layout.specs.declared.places.Layout.{Layout}
+use Rattle.layout.specs.Sizes.{capacity, count}
+use Rattle.book.specs.Book.{storedSheet, storedAnswer, withEntry}
+use Rattle.book.specs.Refusals.{gives, makingCases, filingCases, readingCases, making, made, filing, filed, reading}
+use Rattle.layout.specs.Usable.{Usable}
 use Rattle.book.specs.Demands.{filedAll, ReadsBack}
 use Rattle.book.proofs.Sameness.{same-self}
-use Rattle.book.proofs.Entries.{Sound, right-size, new-sound, sound, unrefused, still-sound, raised, new-sheet, new-answer, same-sheet, same-answer}
+use Rattle.layout.proofs.Soundness.{Sound, right-size, sound, unrefused}
+use Rattle.book.proofs.Entries.{new-sound, still-sound, raised, new-sheet, new-answer, same-sheet, same-answer}
 
 module _ (l : Layout) (usable : Usable l) where
   -- a sound book with this sheet and these bytes as entry e

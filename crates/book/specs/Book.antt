@@ -4,25 +4,19 @@ use Prim.Native.Nat.{ℕ, _+_}
 use mathlib.Core.List.{List}
 use lib.ListN.{replicate}
 use Rattle.overlay.specs.Overlay.{part, overlay}
-use Rattle.sheet.specs.Bytes.{bigEndian, bytesOf}
+use Rattle.sheet.specs.Bytes.{bytesOf}
 use Rattle.sheet.specs.Answer.{answer}
-use Rattle.book.specs.declared.layout.Layout.{Layout}
-use Rattle.book.specs.Layout.{answerSize, countAt, sheetAt, answerAt, bytesFor}
+use Rattle.layout.specs.declared.places.Layout.{Layout}
+use Rattle.layout.specs.Sizes.{capacity, count}
+use Rattle.layout.specs.Layout.{answerSize, countAt, sheetAt, answerAt, bytesFor}
 
 module _ (l : Layout) where
-  -- c and n
-  abbrev pub capacity : List ℕ → ℕ
-  capacity b = bigEndian b (l .lead) (l .width)
-
-  abbrev pub count : List ℕ → ℕ
-  count b = bigEndian b (countAt l) (l .width)
-
   -- what stands in slot e of each array
   abbrev pub storedSheet : List ℕ → ℕ → List ℕ
   storedSheet b e = part b (sheetAt l e) (l .sheet)
 
   abbrev pub storedAnswer : List ℕ → ℕ → List ℕ
-  storedAnswer b e = part b (answerAt l (capacity b) e) answerSize
+  storedAnswer b e = part b (answerAt l (capacity l b) e) answerSize
 
   -- "A new book is all zero but for c."
   unfoldable pub newBook : ℕ → List ℕ
@@ -31,7 +25,7 @@ module _ (l : Layout) where
   -- "Filing writes slot n in both arrays, raises n by one, … and changes nothing else."
   unfoldable pub withEntry : List ℕ → List ℕ → List ℕ
   withEntry b sheet =
-      let n = count b in
+      let n = count l b in
       let b₁ = overlay b (sheetAt l n) sheet in
-      let b₂ = overlay b₁ (answerAt l (capacity b) n) (answer sheet) in
+      let b₂ = overlay b₁ (answerAt l (capacity l b) n) (answer sheet) in
       overlay b₂ (countAt l) (bytesOf (l .width) (n + 1))

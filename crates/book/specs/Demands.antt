@@ -20,9 +20,10 @@ use Rattle.sheet.specs.Sheet.{decoded, goalOf}
 use Rattle.sheet.specs.Search.{requirementOf, verdicts}
 use Rattle.sheet.specs.Answer.{shapeCode, checkCode, lossCode, lossCheck, surfaceCheck, surfaceBound, answer}
 use Rattle.sheet.specs.Refusals.{fieldCases, cases, responseTo}
-use Rattle.book.specs.declared.layout.Layout.{Layout}
-use Rattle.book.specs.Layout.{standard}
-use Rattle.book.specs.Book.{count, storedSheet, storedAnswer}
+use Rattle.layout.specs.declared.places.Layout.{Layout}
+use Rattle.layout.specs.Layout.{standard}
+use Rattle.layout.specs.Sizes.{count}
+use Rattle.book.specs.Book.{storedSheet, storedAnswer}
 use Rattle.book.specs.Refusals.{makingCases, filingCases, readingCases, making, made, filing, filed, reading}
 
 -- Demand 1: "The answer to every sheet and to every book, sound or damaged, is the number of the first listed refusal, in the listed order,

@@ -1,19 +1,20 @@
 -- What the book's calls respond, and what they leave in the book. 01, "Sent back because of the book".
 -- Assumes nothing.
 use Prim.Native.Nat.{ℕ}
-use mathlib.Core.Bool.{Bool, true, false, not, _&&_, _||_}
+use mathlib.Core.Bool.{Bool, true, false, not, _&&_}
 use mathlib.Core.List.{List, [], _∷_, _++_}
-use lib.Dec.{leb, ltb, eqb}
+use lib.Dec.{leb, eqb}
 use lib.ListN.{length}
-use Rattle.refusals.specs.declared.Refusal.the-variants.{BookSize, CountAboveCapacity, NoSuchEntry, BookFull, EntryUnsound}
+use Rattle.refusals.specs.declared.Refusal.the-variants.{BookSize, NoSuchEntry, BookFull, EntryUnsound}
 use Rattle.refusals.specs.Numbers.{numberOf}
 use Rattle.refusals.specs.Cases.{Case, case}
 use Rattle.refusals.specs.Response.{Response, refused, complete, respond, after}
 use Rattle.sheet.specs.Answer.{answer}
 use Rattle.sheet.specs.Refusals.{cases, responseTo}
-use Rattle.book.specs.declared.layout.Layout.{Layout}
-use Rattle.book.specs.Layout.{header, bytesFor}
-use Rattle.book.specs.Book.{capacity, count, storedSheet, storedAnswer, newBook, withEntry}
+use Rattle.layout.specs.declared.places.Layout.{Layout}
+use Rattle.layout.specs.Refusals.{wrongSize, bookCases}
+use Rattle.layout.specs.Sizes.{capacity, count}
+use Rattle.book.specs.Book.{storedSheet, storedAnswer, newBook, withEntry}
 
 -- whether two runs of bytes are equal
 unfoldable pub sameBytes : List ℕ → List ℕ → Bool
@@ -28,33 +29,21 @@ gives (refused n) stored = false
 gives (complete bytes) stored = sameBytes bytes stored
 
 module _ (l : Layout) where
-  -- "31: under 4 bytes, c outside 1 to 1,000, or length not 4 + 32c."
-  abbrev pub wrongSize : ℕ → ℕ → Bool
-  wrongSize size c = ltb size (header l) || ((ltb c 1 || ltb (l .largest) c) || not (eqb size (bytesFor l c)))
-
-  -- of every book that is filed in or read
-  abbrev pub bookCases : List ℕ → List Case
-  bookCases b =
-      case (numberOf BookSize) (wrongSize (length b) (capacity l b)) ∷
-      -- "32: n above c."
-      case (numberOf CountAboveCapacity) (ltb (capacity l b) (count l b)) ∷
-      []
-
   -- "Making a new book has this refusal only; c is then the capacity wanted."
   abbrev pub makingCases : List ℕ → ℕ → List Case
-  makingCases b c = case (numberOf BookSize) (wrongSize (length b) c) ∷ []
+  makingCases b c = case (numberOf BookSize) (wrongSize l (length b) c) ∷ []
 
   -- "These come before 11 to 18.", which are the sheet's
   abbrev pub filingCases : List ℕ → List ℕ → List Case
   filingCases b sheet =
-      bookCases b ++
+      bookCases l b ++
       -- "34: filing, n = c."
       (case (numberOf BookFull) (eqb (count l b) (capacity l b)) ∷
       cases sheet)
 
   abbrev pub readingCases : List ℕ → ℕ → List Case
   readingCases b e =
-      bookCases b ++
+      bookCases l b ++
       -- "33: reading, e not below n."
       (case (numberOf NoSuchEntry) (leb (count l b) e) ∷
       -- "35: reading, the stored sheet is refused or its answer differs from the stored eight bytes."

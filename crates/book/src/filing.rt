@@ -6,15 +6,16 @@ ghost use Rattle.overlay.specs.Overlay.{overlay as Overlay·overlay};
 ghost use Rattle.refusals.specs.Cases.{NoneHolds};
 ghost use Rattle.sheet.specs.Answer.{encoded, answer as Answer·answer};
 ghost use Rattle.outcome.specs.Outcome.{response};
-ghost use Rattle.book.specs.Layout.{standard};
+ghost use Rattle.layout.specs.Layout.{standard};
 ghost use Rattle.book.specs.Book.{withEntry};
-ghost use Rattle.book.specs.Refusals.{bookCases, filing, filed};
-ghost use Rattle.book.specs.Examination.{sizesOf};
-ghost use Rattle.book.specs.Usable.{Usable};
-use crate::examination::Examination;
-use crate::examination::Sizes;
-use crate::layout::Layout;
-use crate::numbers::put_number;
+ghost use Rattle.layout.specs.Refusals.{bookCases};
+ghost use Rattle.book.specs.Refusals.{filing, filed};
+ghost use Rattle.layout.specs.Examination.{sizesOf};
+ghost use Rattle.layout.specs.Usable.{Usable};
+use layout::Examination;
+use layout::Layout;
+use layout::Sizes;
+use layout::put_number;
 use outcome::Outcome;
 use outcome::work_out;
 use overlay::put;
@@ -29,41 +30,44 @@ pub fn file(book: &mut [u8], sheet: &[u8]) -> Outcome
     let layout = Layout::standard();
     match layout.examine(book) {
         Examination::Damaged(why) => Outcome::Refused(why),
-        Examination::Sound(sizes) => layout.file_in(book, sizes, sheet),
+        Examination::Sound(sizes) => file_in(layout, book, sizes, sheet),
     }
 }
 
-impl Layout {
-    // Files in a sound book of these sizes.
-    fn file_in(self, book: &mut [u8], sizes: Sizes, sheet: &[u8]) -> Outcome
-        requires { ⌜ Usable self × NoneHolds (bookCases self (now book)) × (sizes ≡ sizesOf self (now book)) ⌝ }
-        ensures { λ r. ⌜ response r ≡ filing self (now (book .entry)) (now (sheet .entry)) ⌝ }
-        ensures { λ _. ⌜ now (book .exit) ≡ filed self (now (book .entry)) (now (sheet .entry)) ⌝ }
-    {
-        if sizes.count == sizes.capacity {
-            return Outcome::Refused(Refusal::BookFull);
-        }
-        match work_out(sheet) {
-            Outcome::Refused(why) => Outcome::Refused(why),
-            Outcome::Answered(answer) => {
-                self.store(book, sizes, sheet, answer);
-                Outcome::Answered(answer)
-            }
+// Files in a sound book of these sizes.
+fn file_in(layout: Layout, book: &mut [u8], sizes: Sizes, sheet: &[u8]) -> Outcome
+    requires { ⌜ Usable layout × NoneHolds (bookCases layout (now book)) × (sizes ≡ sizesOf layout (now book)) ⌝ }
+    ensures { λ r. ⌜ response r ≡ filing layout (now (book .entry)) (now (sheet .entry)) ⌝ }
+    ensures { λ _. ⌜ now (book .exit) ≡ filed layout (now (book .entry)) (now (sheet .entry)) ⌝ }
+{
+    if sizes.count == sizes.capacity {
+        return Outcome::Refused(Refusal::BookFull);
+    }
+    match work_out(sheet) {
+        Outcome::Refused(why) => Outcome::Refused(why),
+        Outcome::Answered(answer) => {
+            store(layout, book, sizes, sheet, answer);
+            Outcome::Answered(answer)
         }
     }
+}
 
-    // Writes slot n of both arrays and raises the count by one.
-    fn store(self, book: &mut [u8], sizes: Sizes, sheet: &[u8], answer: Answer)
-        requires { ⌜ Usable self × NoneHolds (bookCases self (now book)) × (sizes ≡ sizesOf self (now book)) ⌝ }
-        requires { ⌜ (sizes .count < sizes .capacity) × (length (now sheet) ≡ self .sheet) × (encoded answer ≡ Answer·answer (now sheet)) ⌝ }
-        ensures { λ _. ⌜ now (book .exit) ≡ withEntry self (now (book .entry)) (now (sheet .entry)) ⌝ }
-    {
-        let bytes = answer.encode();
-        let sheet_at = self.sheet_at(sizes.count);
-        let answer_at = self.answer_at(sizes.capacity, sizes.count);
-        put_slots(book, sheet_at, sheet, answer_at, &bytes);
-        put_number(book, self.lead + self.width, self.width, sizes.count + 1);
-    }
+// Writes slot n of both arrays and raises the count by one.
+fn store(layout: Layout, book: &mut [u8], sizes: Sizes, sheet: &[u8], answer: Answer)
+    requires { ⌜ Usable layout × NoneHolds (bookCases layout (now book)) × (sizes ≡ sizesOf layout (now book)) ⌝ }
+    requires { ⌜ (sizes .count < sizes .capacity) × (length (now sheet) ≡ layout .sheet) × (encoded answer ≡ Answer·answer (now sheet)) ⌝ }
+    ensures { λ _. ⌜ now (book .exit) ≡ withEntry layout (now (book .entry)) (now (sheet .entry)) ⌝ }
+{
+    let bytes = answer.encode();
+    let sheet_at = layout.sheet_at(sizes.count);
+    let answer_at = layout.answer_at(sizes.capacity, sizes.count);
+    put_slots(book, sheet_at, sheet, answer_at, &bytes);
+    put_number(
+        book,
+        layout.lead + layout.width,
+        layout.width,
+        sizes.count + 1,
+    );
 }
 
 // Puts a sheet at place p and its answer at place q.

@@ -2,11 +2,11 @@
 ghost use mathlib.Core.Path.{_≡_};
 ghost use mathlib.Core.List.{[]};
 ghost use lib.ListN.{length, replicate};
-ghost use Rattle.book.specs.Layout.{standard};
+ghost use Rattle.layout.specs.Layout.{standard};
 ghost use Rattle.book.specs.Refusals.{making, made};
 ghost use Rattle.book.specs.Completion.{responseWith};
-use crate::layout::Layout;
-use crate::numbers::put_number;
+use layout::Layout;
+use layout::put_number;
 use refusals::Refusal;
 
 pub enum Completion {

@@ -7,16 +7,17 @@ ghost use Rattle.refusals.specs.Cases.{NoneHolds};
 ghost use Rattle.refusals.specs.Response.{after};
 ghost use Rattle.overlay.specs.Overlay.{part};
 ghost use Rattle.sheet.specs.Refusals.{responseTo};
-ghost use Rattle.book.specs.Layout.{standard, sheetAt, answerAt};
+ghost use Rattle.layout.specs.Layout.{standard, sheetAt, answerAt};
 ghost use Rattle.book.specs.Book.{storedSheet, storedAnswer};
-ghost use Rattle.book.specs.Refusals.{sameBytes, gives, bookCases, reading};
+ghost use Rattle.layout.specs.Refusals.{bookCases};
+ghost use Rattle.book.specs.Refusals.{sameBytes, gives, reading};
 ghost use Rattle.book.specs.Completion.{responseWith};
-ghost use Rattle.book.specs.Examination.{sizesOf};
-ghost use Rattle.book.specs.Usable.{Usable};
-use crate::examination::Examination;
-use crate::examination::Sizes;
-use crate::layout::Layout;
+ghost use Rattle.layout.specs.Examination.{sizesOf};
+ghost use Rattle.layout.specs.Usable.{Usable};
 use crate::making::Completion;
+use layout::Examination;
+use layout::Layout;
+use layout::Sizes;
 use outcome::Outcome;
 use outcome::work_out;
 use refusals::Refusal;
@@ -30,57 +31,55 @@ pub fn read(book: &[u8], entry: u64, sheet: &mut [u8; 24], answer: &mut [u8; 8])
     let layout = Layout::standard();
     match layout.examine(book) {
         Examination::Damaged(why) => Completion::Refused(why),
-        Examination::Sound(sizes) => layout.read_in(book, sizes, entry, sheet, answer),
+        Examination::Sound(sizes) => read_in(layout, book, sizes, entry, sheet, answer),
     }
 }
 
-impl Layout {
-    // Reads in a sound book of these sizes.
-    fn read_in(
-        self,
-        book: &[u8],
-        sizes: Sizes,
-        entry: u64,
-        sheet: &mut [u8],
-        answer: &mut [u8],
-    ) -> Completion
-        requires { ⌜ Usable self × NoneHolds (bookCases self (now book)) × (sizes ≡ sizesOf self (now book)) ⌝ }
-        requires { ⌜ (length (now sheet) ≡ self .sheet) × (length (now answer) ≡ 8) ⌝ }
-        ensures { λ r. ⌜ responseWith r (now (sheet .exit) ++ now (answer .exit)) ≡ reading self (now (book .entry)) entry ⌝ }
-        ensures { λ _. ⌜ now (sheet .exit) ≡ after (reading self (now (book .entry)) entry) (storedSheet self (now (book .entry)) entry) (now (sheet .entry)) ⌝ }
-        ensures { λ _. ⌜ now (answer .exit) ≡ after (reading self (now (book .entry)) entry) (storedAnswer self (now (book .entry)) entry) (now (answer .entry)) ⌝ }
-    {
-        if sizes.count <= entry {
-            return Completion::Refused(Refusal::NoSuchEntry);
-        }
-        let stored = self.stored_sheet(book, entry);
-        let filed = self.stored_answer(book, sizes.capacity, entry);
-        if is_answer(stored, filed) {
-            bytes::copy(stored, sheet);
-            bytes::copy(filed, answer);
-            return Completion::Complete;
-        }
-        Completion::Refused(Refusal::EntryUnsound)
+// Reads in a sound book of these sizes.
+fn read_in(
+    layout: Layout,
+    book: &[u8],
+    sizes: Sizes,
+    entry: u64,
+    sheet: &mut [u8],
+    answer: &mut [u8],
+) -> Completion
+    requires { ⌜ Usable layout × NoneHolds (bookCases layout (now book)) × (sizes ≡ sizesOf layout (now book)) ⌝ }
+    requires { ⌜ (length (now sheet) ≡ layout .sheet) × (length (now answer) ≡ 8) ⌝ }
+    ensures { λ r. ⌜ responseWith r (now (sheet .exit) ++ now (answer .exit)) ≡ reading layout (now (book .entry)) entry ⌝ }
+    ensures { λ _. ⌜ now (sheet .exit) ≡ after (reading layout (now (book .entry)) entry) (storedSheet layout (now (book .entry)) entry) (now (sheet .entry)) ⌝ }
+    ensures { λ _. ⌜ now (answer .exit) ≡ after (reading layout (now (book .entry)) entry) (storedAnswer layout (now (book .entry)) entry) (now (answer .entry)) ⌝ }
+{
+    if sizes.count <= entry {
+        return Completion::Refused(Refusal::NoSuchEntry);
     }
+    let stored = stored_sheet(layout, book, entry);
+    let filed = stored_answer(layout, book, sizes.capacity, entry);
+    if is_answer(stored, filed) {
+        bytes::copy(stored, sheet);
+        bytes::copy(filed, answer);
+        return Completion::Complete;
+    }
+    Completion::Refused(Refusal::EntryUnsound)
+}
 
-    // What stands in slot e of each array.
-    fn stored_sheet(self, book: &[u8], e: u64) -> &[u8]
-        requires { ⌜ Usable self × (e < self .largest) × (sheetAt self e + self .sheet ≤ length (now book)) ⌝ }
-        ensures { λ r. ⌜ now r ≡ part (now (book .entry)) (sheetAt self e) (self .sheet) ⌝ }
-    {
-        let from = self.sheet_at(e);
-        let to = from + self.sheet;
-        &book[from..to]
-    }
+// What stands in slot e of each array.
+fn stored_sheet(layout: Layout, book: &[u8], e: u64) -> &[u8]
+    requires { ⌜ Usable layout × (e < layout .largest) × (sheetAt layout e + layout .sheet ≤ length (now book)) ⌝ }
+    ensures { λ r. ⌜ now r ≡ part (now (book .entry)) (sheetAt layout e) (layout .sheet) ⌝ }
+{
+    let from = layout.sheet_at(e);
+    let to = from + layout.sheet;
+    &book[from..to]
+}
 
-    fn stored_answer(self, book: &[u8], capacity: u64, e: u64) -> &[u8]
-        requires { ⌜ Usable self × (capacity ≤ self .largest) × (e < capacity) × (answerAt self capacity e + 8 ≤ length (now book)) ⌝ }
-        ensures { λ r. ⌜ now r ≡ part (now (book .entry)) (answerAt self capacity e) 8 ⌝ }
-    {
-        let from = self.answer_at(capacity, e);
-        let to = from + 8;
-        &book[from..to]
-    }
+fn stored_answer(layout: Layout, book: &[u8], capacity: u64, e: u64) -> &[u8]
+    requires { ⌜ Usable layout × (capacity ≤ layout .largest) × (e < capacity) × (answerAt layout capacity e + 8 ≤ length (now book)) ⌝ }
+    ensures { λ r. ⌜ now r ≡ part (now (book .entry)) (answerAt layout capacity e) 8 ⌝ }
+{
+    let from = layout.answer_at(capacity, e);
+    let to = from + 8;
+    &book[from..to]
 }
 
 // Whether the sheet is answered, and with these eight bytes.

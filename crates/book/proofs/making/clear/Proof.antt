@@ -6,7 +6,7 @@ use Prim.Native.Nat.{_+_, _-_, _≤_}
 use native.Mathlib.Numerals.{add-one}
 use native.Mathlib.Omega.{arith}
 use lib.ListN.{length, drop, replicate, length-set}
-use Rattle.book.proofs.Numerals.{zeros-more}
+use Rattle.book.proofs.Zeros.{zeros-more}
 use mathlib.Core.List.{append-nil}
 use lib.Seq.{drop-length}
 use mathlib.Core.Path.{_≡_, refl}

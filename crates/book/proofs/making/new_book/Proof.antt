@@ -9,19 +9,20 @@ use borrow.Author.Needs.{needs}
 use lib.ListN.{length, length-replicate}
 use Rattle.refusals.specs.Response.{refused, complete}
 use Rattle.refusals.proofs.Response.{none-holds}
-use Rattle.book.specs.Layout.{standard, bytesFor}
-use Rattle.book.specs.Book.{capacity, newBook}
-use Rattle.book.specs.Refusals.{wrongSize, makingCases, making}
-use Rattle.book.proofs.Entries.{right-size}
+use Rattle.layout.specs.Layout.{standard, bytesFor}
+use Rattle.layout.specs.Sizes.{capacity}
+use Rattle.book.specs.Book.{newBook}
+use Rattle.layout.specs.Refusals.{wrongSize}
+use Rattle.book.specs.Refusals.{makingCases, making}
+use Rattle.layout.proofs.Soundness.{right-size}
 use Rattle.refusals.specs.Cases.{NoneHolds}
 use Rattle.refusals.proofs.Response.{first-at, none-holds}
-use Rattle.book.proofs.Standard.{standard-usable}
+use Rattle.layout.proofs.Standard.{standard-usable}
 use mathlib.Core.Path.{_≡_, refl, sym, _∙_}
 use mathlib.Core.Bool.{true, false}
 use mathlib.Core.List.{[]}
 use Prim.Native.Nat.{_-_}
 use lib.ListN.{length}
-use Rattle.book.specs.Layout.{standard}
 use Rattle.book.proofs.making.new_book.Statement.{statement}
 use Rattle.book.proofs.making.new_book.Tie as tie
 

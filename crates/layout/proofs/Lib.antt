@@ -1,0 +1,4 @@
+pub mod Numerals
+pub mod Soundness
+pub mod Examined
+pub mod Standard

@@ -1,0 +1,64 @@
+-- Books of which neither 31 nor 32 holds.
+-- Assumes nothing.
+use mathlib.Core.Path.{_≡_, refl}
+use mathlib.Core.Bool.{Bool, true, false, not, _||_, false≢true}
+use mathlib.Core.List.{List}
+use Prim.Native.Nat.{ℕ, _≤_}
+use native.Mathlib.Omega.{arith}
+use lib.Dec.{ltb, eqb}
+use lib.ListN.{length}
+use borrow.Author.Tests.{ltb-false, le-ltb, eqb-true, eq-eqb, not-false}
+use Rattle.refusals.specs.Cases.{NoneHolds}
+use Rattle.sheet.proofs.Inside.{or-false-both}
+use Rattle.layout.specs.declared.places.Layout.{Layout}
+use Rattle.layout.specs.declared.examination.Sizes.{Sizes}
+use Rattle.layout.specs.Examination.{sizesOf}
+use Rattle.layout.specs.Layout.{header, answerAt, bytesFor}
+use Rattle.layout.specs.Sizes.{capacity, count}
+use Rattle.layout.specs.Refusals.{wrongSize, bookCases}
+
+-- a book of which neither 31 nor 32 holds
+pub record Sound (l : Layout) (b : List ℕ) : Type 0 where
+  pub some : 1 ≤ capacity l b
+  pub most : capacity l b ≤ l .largest
+  pub size : length b ≡ bytesFor l (capacity l b)
+  pub counted : count l b ≤ capacity l b
+
+or-more : (a b c : Bool) → a || b ≡ true → true ≡ a || (b || c)
+or-more true b c e = refl
+or-more false true c e = refl
+or-more false false c e = absurd (false≢true e)
+
+module _ (l : Layout) where
+  pub right-size : (size c : ℕ) → wrongSize l size c ≡ false → (1 ≤ c) × (c ≤ l .largest) × (size ≡ bytesFor l c)
+  right-size size c e =
+      let parts = or-false-both (ltb size (header l)) _ e in
+      let rest = or-false-both (ltb c 1 || ltb (l .largest) c) _ (parts .1) in
+      let ends = or-false-both (ltb c 1) _ (rest .0) in
+      (ltb-false _ _ (ends .0), ltb-false _ _ (ends .1), eqb-true _ _ (not-false _ (rest .1)))
+
+  -- the tests of 31 as the code makes them, h and a being the places that it works out
+  pub too-short : (size c h : ℕ) → h ≡ header l → ltb size h || (ltb c 1 || ltb (l .largest) c) ≡ true → true ≡ wrongSize l size c
+  too-short size c h is e = or-more (ltb size (header l)) (ltb c 1 || ltb (l .largest) c) (not (eqb size (bytesFor l c))) (rw is at e)
+
+  pub long-enough : (size c h a : ℕ) → h ≡ header l → a ≡ answerAt l c c → ltb size h || (ltb c 1 || ltb (l .largest) c) ≡ false → not (eqb size a) ≡ wrongSize l size c
+  long-enough size c h a is at-end e =
+      let parts = or-false-both (ltb size (header l)) (ltb c 1 || ltb (l .largest) c) (rw is at e) in
+      let all : a ≡ bytesFor l c = omega (arith, at-end) in
+      rw (parts .0, parts .1, all) refl
+
+  pub sound : (b : List ℕ) → NoneHolds (bookCases l b) → Sound l b
+  unfolding NoneHolds
+  sound b none =
+      let known = right-size (length b) (capacity l b) (none .0) in
+      record { some = known .0; most = known .1; size = known .2; counted = ltb-false _ _ (none .1 .0) }
+
+  -- the same of sizes that were read
+  pub sized : (b : List ℕ) (sizes : Sizes) → Sound l b → sizes ≡ sizesOf l b → (sizes .capacity ≤ l .largest) × (length b ≡ bytesFor l (sizes .capacity)) × (sizes .count ≤ sizes .capacity)
+  sized b sizes is e = rw e (is .most, is .size, is .counted)
+
+  pub unrefused : (b : List ℕ) → Sound l b → NoneHolds (bookCases l b)
+  unfolding NoneHolds
+  unrefused b is =
+      let head : ltb (length b) (header l) ≡ false = le-ltb (length b) (header l) (omega (arith, is .size)) in
+      (rw (head, le-ltb (capacity l b) 1 (is .some), le-ltb (l .largest) (capacity l b) (is .most), eq-eqb (length b) (bytesFor l (capacity l b)) (is .size)), (le-ltb (capacity l b) (count l b) (is .counted), tt))

@@ -1,0 +1,5 @@
+pub mod Layout
+pub mod Sizes
+pub mod Refusals
+pub mod Usable
+pub mod Examination

@@ -1,0 +1,15 @@
+-- The sizes that a book states. 01, "The book": "capacity c (2 bytes, 1 to 1,000), count n (2 bytes)".
+-- Assumes nothing.
+use Prim.Native.Nat.{ℕ}
+use mathlib.Core.List.{List}
+use Rattle.sheet.specs.Bytes.{bigEndian}
+use Rattle.layout.specs.declared.places.Layout.{Layout}
+use Rattle.layout.specs.Layout.{countAt}
+
+module _ (l : Layout) where
+  -- c and n
+  abbrev pub capacity : List ℕ → ℕ
+  capacity b = bigEndian b (l .lead) (l .width)
+
+  abbrev pub count : List ℕ → ℕ
+  count b = bigEndian b (countAt l) (l .width)
