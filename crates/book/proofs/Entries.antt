@@ -15,10 +15,9 @@ use Rattle.sheet.specs.Answer.{encoded, answer}
 use Rattle.layout.specs.declared.places.Layout.{Layout}
 use Rattle.layout.specs.Layout.{answerSize, countAt, header, sheetAt, answerAt, bytesFor}
 use Rattle.layout.specs.Sizes.{capacity, count}
-use Rattle.book.specs.Book.{storedSheet, storedAnswer, newBook, withEntry}
+use Rattle.book.specs.Book.{storedSheet, storedAnswer, newBook, withSlots, withCount, withEntry}
 use Rattle.layout.proofs.Soundness.{Sound}
 use Rattle.layout.specs.Usable.{Usable}
-use Rattle.book.specs.Refusals.{filing}
 use Rattle.layout.proofs.Numerals.{same-number, length-bytes, number-bytes, number-zeros}
 
 pub length-encoded : (a : Answer) → length (encoded a) ≡ answerSize
@@ -74,12 +73,12 @@ module _ (l : Layout) where
     length₂ = length-overlay b₁ (answerAt l c n) (answer sheet) (omega (arith, slots, is .size, length₁, length-answer sheet)) ∙ length₁
 
     length₃ : length (withEntry l b sheet) ≡ length b
-    unfolding withEntry
+    unfolding withSlots withCount
     length₃ = length-overlay b₂ (countAt l) (bytesOf (l .width) (n + 1)) (omega (arith, is .size, length₂, length-bytes (l .width) (n + 1))) ∙ length₂
 
     -- the bytes before the count
     front : part (withEntry l b sheet) (l .lead) (l .width) ≡ part b (l .lead) (l .width)
-    unfolding withEntry
+    unfolding withSlots withCount
     front =
         part-before b₂ (countAt l) (bytesOf (l .width) (n + 1)) (l .lead) (l .width) (omega arith) (omega (arith, is .size, length₂))
         ∙ part-before b₁ (answerAt l c n) (answer sheet) (l .lead) (l .width) (omega arith) (omega (arith, slots, is .size, length₁))
@@ -87,14 +86,14 @@ module _ (l : Layout) where
 
     -- behind the count, what the two arrays hold
     behind : (p k : ℕ) → header l ≤ p → part (withEntry l b sheet) p k ≡ part b₂ p k
-    unfolding withEntry
+    unfolding withSlots withCount
     behind p k le = part-after b₂ (countAt l) (bytesOf (l .width) (n + 1)) p k (omega (arith, length-bytes (l .width) (n + 1))) (omega (arith, is .size, length₂))
 
     pub same-capacity : capacity l (withEntry l b sheet) ≡ c
     same-capacity = same-number (withEntry l b sheet) b (l .lead) (l .lead) (l .width) front
 
     pub raised : count l (withEntry l b sheet) ≡ n + 1
-    unfolding withEntry
+    unfolding withSlots withCount
     raised =
         let size : length (bytesOf (l .width) (n + 1)) ≡ l .width = length-bytes (l .width) (n + 1) in
         let there : part (withEntry l b sheet) (countAt l) (l .width) ≡ bytesOf (l .width) (n + 1) = rw size at (part-at b₂ (countAt l) (bytesOf (l .width) (n + 1)) (omega (arith, is .size, length₂))) in

@@ -1,7 +1,6 @@
 pub mod Zeros
 pub mod Sameness
 pub mod Entries
-pub mod Responses
 pub mod Sheets
 pub mod ReadingBack
 pub mod Demands

@@ -1,28 +1,13 @@
 -- Two runs of bytes compared byte by byte.
 -- Assumes nothing.
 use mathlib.Core.Path.{_≡_, refl}
-use mathlib.Core.Bool.{true, false}
+use mathlib.Core.Bool.{true}
 use mathlib.Core.List.{List, [], _∷_}
-use Prim.Native.Nat.{ℕ, suc, _≤_, _<_}
-use lib.ListN.{length, getD, drop, drop-of-length-le}
-use lib.Seq.{drop-cons}
-use borrow.Author.Tests.{eq-eqb, ne-eqb}
+use Prim.Native.Nat.{ℕ}
+use borrow.Author.Tests.{eq-eqb}
 use Rattle.book.specs.Refusals.{sameBytes}
 
 pub same-self : (bytes : List ℕ) → sameBytes bytes bytes ≡ true
 unfolding sameBytes
 same-self [] = refl
 same-self (x ∷ xs) = rw (eq-eqb x x refl, same-self xs)
-
-module _ (a b : List ℕ) (i : ℕ) (le-a : i < length a) (le-b : i < length b) where
-  pub differ : ¬ (getD a i 0 ≡ getD b i 0) → sameBytes (drop i a) (drop i b) ≡ false
-  unfolding sameBytes
-  differ not = rw (drop-cons a i 0 le-a, drop-cons b i 0 le-b, ne-eqb (getD a i 0) (getD b i 0) not)
-
-  pub agree : getD a i 0 ≡ getD b i 0 → sameBytes (drop i a) (drop i b) ≡ sameBytes (drop (suc i) a) (drop (suc i) b)
-  unfolding sameBytes
-  agree is = rw (drop-cons a i 0 le-a, drop-cons b i 0 le-b, eq-eqb (getD a i 0) (getD b i 0) is)
-
-pub end : (a b : List ℕ) (i : ℕ) → length a ≤ i → length b ≤ i → sameBytes (drop i a) (drop i b) ≡ true
-unfolding sameBytes
-end a b i le-a le-b = rw (drop-of-length-le a {i = i} le-a, drop-of-length-le b {i = i} le-b)

@@ -22,10 +22,13 @@ module _ (l : Layout) where
   unfoldable pub newBook : ℕ → List ℕ
   newBook c = overlay (replicate (bytesFor l c) 0) (l .lead) (bytesOf (l .width) c)
 
-  -- "Filing writes slot n in both arrays, raises n by one, … and changes nothing else."
-  unfoldable pub withEntry : List ℕ → List ℕ → List ℕ
-  withEntry b sheet =
-      let n = count l b in
-      let b₁ = overlay b (sheetAt l n) sheet in
-      let b₂ = overlay b₁ (answerAt l (capacity l b) n) (answer sheet) in
-      overlay b₂ (countAt l) (bytesOf (l .width) (n + 1))
+  -- "Filing writes slot n in both arrays"
+  unfoldable pub withSlots : List ℕ → List ℕ → List ℕ
+  withSlots b sheet = overlay (overlay b (sheetAt l (count l b)) sheet) (answerAt l (capacity l b) (count l b)) (answer sheet)
+
+  unfoldable pub withCount : List ℕ → ℕ → List ℕ
+  withCount b n = overlay b (countAt l) (bytesOf (l .width) n)
+
+  -- "raises n by one, … and changes nothing else."
+  abbrev pub withEntry : List ℕ → List ℕ → List ℕ
+  withEntry b sheet = withCount (withSlots b sheet) (count l b + 1)

@@ -1,4 +1,3 @@
 pub mod Book
 pub mod Refusals
-pub mod Completion
 pub mod Demands

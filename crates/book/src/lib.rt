@@ -1,9 +1,4 @@
-// A book over lent bytes: made new, filed in, read.
-mod filing;
+// A book over lent bytes, and how it is made new.
 mod making;
-mod reading;
 
-pub use filing::file;
-pub use making::Completion;
 pub use making::new_book;
-pub use reading::read;

@@ -4,15 +4,11 @@ ghost use mathlib.Core.List.{[]};
 ghost use lib.ListN.{length, replicate};
 ghost use Rattle.layout.specs.Layout.{standard};
 ghost use Rattle.book.specs.Refusals.{making, made};
-ghost use Rattle.book.specs.Completion.{responseWith};
+ghost use Rattle.refusals.specs.Completion.{responseWith};
 use layout::Layout;
 use layout::put_number;
+use refusals::Completion;
 use refusals::Refusal;
-
-pub enum Completion {
-    Refused(Refusal),
-    Complete,
-}
 
 // Makes the lent bytes a new book of this capacity.
 pub fn new_book(book: &mut [u8], capacity: u64) -> Completion

@@ -7,16 +7,15 @@ ghost use Rattle.layout.specs.Layout.{standard};
 ghost use Rattle.book.specs.Book.{storedSheet, storedAnswer};
 ghost use Prim.Native.Nat.{ℕ};
 ghost use mathlib.Core.List.{List};
-ghost use Rattle.book.specs.Completion.{responseWith};
+ghost use Rattle.refusals.specs.Completion.{responseWith};
 ghost use Rattle.book.specs.Refusals.{making, made, filing, filed, reading};
 ghost use Rattle.kennelday.specs.Code.{code, handed};
-use book::Completion;
-use book::file;
 use book::new_book;
-use book::read;
+use filing::file;
 use outcome::Outcome;
 use outcome::work_out;
-use sheet::Answer;
+use reading::read;
+use refusals::Completion;
 
 // The answer to a sheet.
 #[no_mangle]

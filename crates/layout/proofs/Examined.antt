@@ -1,6 +1,6 @@
 -- What an examination says of a book.
 -- Assumes nothing.
-use mathlib.Core.Path.{_≡_, refl, sym, ap}
+use mathlib.Core.Path.{_≡_, sym, ap}
 use mathlib.Core.List.{List, [], _∷_, _++_}
 use Prim.Native.Nat.{ℕ}
 use lib.ListN.{getD}
@@ -14,7 +14,7 @@ use Rattle.layout.specs.declared.examination.Sizes.{Sizes}
 use Rattle.layout.specs.declared.examination.Examination.the-variants.{Damaged, Sound}
 use Rattle.layout.specs.Sizes.{capacity, count}
 use Rattle.layout.specs.Refusals.{bookCases}
-use Rattle.layout.specs.Examination.{sizesOf, examined}
+use Rattle.layout.specs.Examination.{examined}
 
 module _ (l : Layout) (b : List ℕ) where
   -- the two sizes as an examination gives them
@@ -24,9 +24,7 @@ module _ (l : Layout) (b : List ℕ) where
   pub damaged : (why : Refusal) → examined (Damaged why) ≡ respond (bookCases l b) both → (rest : List Case) (bytes : List ℕ) → respond (bookCases l b ++ rest) bytes ≡ refused (numberOf why)
   damaged why e rest bytes = in-front (bookCases l b) rest both bytes (numberOf why) (sym e)
 
-  pub undamaged : (sizes : Sizes) → examined (Sound sizes) ≡ respond (bookCases l b) both → NoneHolds (bookCases l b) × (sizes ≡ sizesOf l b)
+  pub undamaged : (sizes : Sizes) → examined (Sound sizes) ≡ respond (bookCases l b) both → NoneHolds (bookCases l b) × (sizes .capacity ≡ capacity l b) × (sizes .count ≡ count l b)
   undamaged sizes e =
       let got = completed (bookCases l b) both (sizes .capacity ∷ sizes .count ∷ []) (sym e) in
-      let first : capacity l b ≡ sizes .capacity = ap (λ (x : List ℕ). getD x 0 0) (got .1) in
-      let second : count l b ≡ sizes .count = ap (λ (x : List ℕ). getD x 1 0) (got .1) in
-      (got .0, rw (first, second) refl)
+      (got .0, sym (ap (λ (x : List ℕ). getD x 0 0) (got .1)), sym (ap (λ (x : List ℕ). getD x 1 0) (got .1)))

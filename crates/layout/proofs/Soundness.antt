@@ -11,8 +11,6 @@ use borrow.Author.Tests.{ltb-false, le-ltb, eqb-true, eq-eqb, not-false}
 use Rattle.refusals.specs.Cases.{NoneHolds}
 use Rattle.sheet.proofs.Inside.{or-false-both}
 use Rattle.layout.specs.declared.places.Layout.{Layout}
-use Rattle.layout.specs.declared.examination.Sizes.{Sizes}
-use Rattle.layout.specs.Examination.{sizesOf}
 use Rattle.layout.specs.Layout.{header, answerAt, bytesFor}
 use Rattle.layout.specs.Sizes.{capacity, count}
 use Rattle.layout.specs.Refusals.{wrongSize, bookCases}
@@ -54,8 +52,8 @@ module _ (l : Layout) where
       record { some = known .0; most = known .1; size = known .2; counted = ltb-false _ _ (none .1 .0) }
 
   -- the same of sizes that were read
-  pub sized : (b : List ℕ) (sizes : Sizes) → Sound l b → sizes ≡ sizesOf l b → (sizes .capacity ≤ l .largest) × (length b ≡ bytesFor l (sizes .capacity)) × (sizes .count ≤ sizes .capacity)
-  sized b sizes is e = rw e (is .most, is .size, is .counted)
+  pub sized : (b : List ℕ) (c n : ℕ) → Sound l b → c ≡ capacity l b → n ≡ count l b → (c ≤ l .largest) × (length b ≡ bytesFor l c) × (n ≤ c)
+  sized b c n is c-is n-is = rw (c-is, n-is) (is .most, is .size, is .counted)
 
   pub unrefused : (b : List ℕ) → Sound l b → NoneHolds (bookCases l b)
   unfolding NoneHolds

@@ -23,6 +23,12 @@ pub enum Refusal {
     EntryUnsound,
 }
 
+// What a call that leaves its bytes in lent arrays says.
+pub enum Completion {
+    Refused(Refusal),
+    Complete,
+}
+
 impl Refusal {
     pub fn number(self) -> u8
         ensures { λ r. ⌜ r ≡ numberOf self ⌝ }

@@ -2,7 +2,7 @@
 -- Assumes nothing.
 use mathlib.Core.Path.{sym, ap, _∙_}
 use borrow.Author.Needs.{needs}
-use Rattle.book.specs.Completion.{responseWith}
+use Rattle.refusals.specs.Completion.{responseWith}
 use Rattle.kennelday.specs.Code.{code}
 use Rattle.kennelday.proofs.number_or_0.Statement.{statement}
 use Rattle.kennelday.proofs.number_or_0.Tie as tie

@@ -1,16 +1,13 @@
 -- All bytes become zero. The loop's invariant: the first i are.
 -- Assumes nothing.
 use mathlib.Core.Path.{_≡_, refl, _∙_}
-use mathlib.Core.List.{_++_}
+use mathlib.Core.List.{_++_, append-nil}
 use Prim.Native.Nat.{_+_, _-_, _≤_}
 use native.Mathlib.Numerals.{add-one}
 use native.Mathlib.Omega.{arith}
 use lib.ListN.{length, drop, replicate, length-set}
 use Rattle.book.proofs.Zeros.{zeros-more}
-use mathlib.Core.List.{append-nil}
 use lib.Seq.{drop-length}
-use mathlib.Core.Path.{_≡_, refl}
-use lib.ListN.{length, drop, replicate}
 use Rattle.book.proofs.making.clear.Statement.{statement}
 use Rattle.book.proofs.making.clear.Tie as tie
 

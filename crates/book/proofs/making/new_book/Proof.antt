@@ -1,14 +1,14 @@
 -- A new book: cleared, then its capacity put.
 -- Assumes nothing.
 use mathlib.Core.Path.{_≡_, refl, sym, ap, _∙_}
-use mathlib.Core.Bool.{true, false, not}
+use mathlib.Core.Bool.{true, false}
 use mathlib.Core.List.{List, []}
 use Prim.Native.Nat.{ℕ, _-_}
 use native.Mathlib.Omega.{arith}
 use borrow.Author.Needs.{needs}
 use lib.ListN.{length, length-replicate}
 use Rattle.refusals.specs.Response.{refused, complete}
-use Rattle.refusals.proofs.Response.{none-holds}
+use Rattle.refusals.proofs.Response.{none-holds, first-at}
 use Rattle.layout.specs.Layout.{standard, bytesFor}
 use Rattle.layout.specs.Sizes.{capacity}
 use Rattle.book.specs.Book.{newBook}
@@ -16,13 +16,7 @@ use Rattle.layout.specs.Refusals.{wrongSize}
 use Rattle.book.specs.Refusals.{makingCases, making}
 use Rattle.layout.proofs.Soundness.{right-size}
 use Rattle.refusals.specs.Cases.{NoneHolds}
-use Rattle.refusals.proofs.Response.{first-at, none-holds}
 use Rattle.layout.proofs.Standard.{standard-usable}
-use mathlib.Core.Path.{_≡_, refl, sym, _∙_}
-use mathlib.Core.Bool.{true, false}
-use mathlib.Core.List.{[]}
-use Prim.Native.Nat.{_-_}
-use lib.ListN.{length}
 use Rattle.book.proofs.making.new_book.Statement.{statement}
 use Rattle.book.proofs.making.new_book.Tie as tie
 

@@ -1,0 +1,66 @@
+// Reading an entry back.
+mod entry;
+
+ghost use mathlib.Core.Path.{_≡_};
+ghost use mathlib.Core.List.{_++_};
+ghost use Prim.Native.Nat.{_+_, _<_};
+ghost use lib.ListN.{length};
+ghost use Rattle.refusals.specs.Cases.{NoneHolds};
+ghost use Rattle.refusals.specs.Response.{after};
+ghost use Rattle.layout.specs.Layout.{standard};
+ghost use Rattle.book.specs.Book.{storedSheet, storedAnswer};
+ghost use Rattle.layout.specs.Sizes.{capacity, count};
+ghost use Rattle.layout.specs.Refusals.{bookCases};
+ghost use Rattle.book.specs.Refusals.{reading};
+ghost use Rattle.refusals.specs.Completion.{responseWith};
+ghost use Rattle.layout.specs.Usable.{Usable};
+use crate::entry::is_answer;
+use crate::entry::stored_answer;
+use crate::entry::stored_sheet;
+use layout::Examination;
+use layout::Layout;
+use layout::Sizes;
+use refusals::Completion;
+use refusals::Refusal;
+
+// Reads entry e into the two lent arrays, once its sheet is worked out again.
+pub fn read(book: &[u8], entry: u64, sheet: &mut [u8; 24], answer: &mut [u8; 8]) -> Completion
+    ensures { λ r. ⌜ responseWith r (now (sheet .exit) ++ now (answer .exit)) ≡ reading standard (now (book .entry)) entry ⌝ }
+    ensures { λ _. ⌜ now (sheet .exit) ≡ after (reading standard (now (book .entry)) entry) (storedSheet standard (now (book .entry)) entry) (now (sheet .entry)) ⌝ }
+    ensures { λ _. ⌜ now (answer .exit) ≡ after (reading standard (now (book .entry)) entry) (storedAnswer standard (now (book .entry)) entry) (now (answer .entry)) ⌝ }
+{
+    let layout = Layout::standard();
+    match layout.examine(book) {
+        Examination::Damaged(why) => Completion::Refused(why),
+        Examination::Sound(sizes) => read_in(layout, book, sizes, entry, sheet, answer),
+    }
+}
+
+// Reads in a sound book of these sizes.
+fn read_in(
+    layout: Layout,
+    book: &[u8],
+    sizes: Sizes,
+    entry: u64,
+    sheet: &mut [u8],
+    answer: &mut [u8],
+) -> Completion
+    requires { ⌜ Usable layout × NoneHolds (bookCases layout (now book)) ⌝ }
+    requires { ⌜ (sizes .capacity ≡ capacity layout (now book)) × (sizes .count ≡ count layout (now book)) ⌝ }
+    requires { ⌜ (length (now sheet) ≡ layout .sheet) × (length (now answer) ≡ 8) ⌝ }
+    ensures { λ r. ⌜ responseWith r (now (sheet .exit) ++ now (answer .exit)) ≡ reading layout (now (book .entry)) entry ⌝ }
+    ensures { λ _. ⌜ now (sheet .exit) ≡ after (reading layout (now (book .entry)) entry) (storedSheet layout (now (book .entry)) entry) (now (sheet .entry)) ⌝ }
+    ensures { λ _. ⌜ now (answer .exit) ≡ after (reading layout (now (book .entry)) entry) (storedAnswer layout (now (book .entry)) entry) (now (answer .entry)) ⌝ }
+{
+    if sizes.count <= entry {
+        return Completion::Refused(Refusal::NoSuchEntry);
+    }
+    let stored = stored_sheet(layout, book, entry);
+    let filed = stored_answer(layout, book, sizes.capacity, entry);
+    if is_answer(stored, filed) {
+        bytes::copy(stored, sheet);
+        bytes::copy(filed, answer);
+        return Completion::Complete;
+    }
+    Completion::Refused(Refusal::EntryUnsound)
+}
