@@ -1,12 +1,12 @@
 -- An entry filed in a new book reads back equal, for any layout: filing keeps every entry, and the new one is the sheet with its answer.
 -- Assumes nothing.
-use mathlib.Core.Path.{_≡_, refl, ap, _∙_}
+use mathlib.Core.Path.{_≡_, refl, sym, ap, _∙_}
 use mathlib.Core.Bool.{false, not}
 use mathlib.Core.List.{List, [], _∷_, _++_}
 use Prim.Native.Nat.{ℕ, _+_, _<_}
 use native.Mathlib.Omega.{arith}
 use lib.ListN.{length}
-use borrow.Author.Tests.{lt-leb, eqb-false}
+use borrow.Author.Tests.{eqb-true, not-false, lt-leb, eqb-false}
 use Rattle.refusals.specs.Cases.{NoneHolds}
 use Rattle.refusals.specs.Response.{Response, refused, complete, after}
 use Rattle.refusals.proofs.Response.{completed, none-holds}
@@ -20,9 +20,14 @@ use Rattle.layout.specs.Usable.{Usable}
 use Rattle.book.specs.Demands.{filedAll, ReadsBack}
 use Rattle.book.proofs.Sameness.{same-self}
 use Rattle.layout.proofs.Soundness.{Sound, right-size, sound, unrefused}
-use Rattle.book.proofs.Entries.{new-sound, still-sound, raised, new-sheet, new-answer, same-sheet, same-answer}
+use Rattle.book.proofs.Entries.{length-answer, new-sound, still-sound, raised, new-sheet, new-answer, same-sheet, same-answer}
 
-module _ (l : Layout) (usable : Usable l) where
+-- a sheet of 01 that is answered has 24 bytes
+pub sheet-size : (sheet bytes : List ℕ) → responseTo sheet ≡ complete bytes → length sheet ≡ 24
+unfolding NoneHolds
+sheet-size sheet bytes h = eqb-true _ _ (not-false _ (completed (cases sheet) (answer sheet) bytes h .0 .0))
+
+module _ (l : Layout) (usable : Usable l) (sheets : l .sheet ≡ 24) where
   -- a sound book with this sheet and these bytes as entry e
   record Holds (e : ℕ) (sheet bytes book : List ℕ) : Type 0 where
     is : Sound l book
@@ -46,37 +51,37 @@ module _ (l : Layout) (usable : Usable l) where
       let is = sound l book (none .0, (none .1 .0, tt)) in
       let free : ¬ (count l book ≡ capacity l book) = eqb-false _ _ (none .1 .1 .0) in
       let answered = none-holds (cases sheet) (answer sheet) (none .1 .1 .1) ∙ ap complete (got .1) in
-      record { is = is; room = omega (arith, is .counted); answered = answered; same = got .1; slot = usable .filled sheet bytes answered }
+      record { is = is; room = omega (arith, is .counted); answered = answered; same = got .1; slot = sheet-size sheet bytes answered ∙ sym sheets }
 
   -- what holds of every book that filings make of a sound one
-  kept : (P : List ℕ → Type 0) → ((book sheet bytes : List ℕ) → P book → Complete book sheet bytes → P (withEntry l book sheet)) → (sheets : List (List ℕ)) (book : List ℕ) → P book → P (filedAll l book sheets)
+  kept : (P : List ℕ → Type 0) → ((book sheet bytes : List ℕ) → P book → Complete book sheet bytes → P (withEntry l book sheet (answer sheet))) → (sheets : List (List ℕ)) (book : List ℕ) → P book → P (filedAll l book sheets)
   unfolding filedAll
   kept P more [] book p = p
   kept P more (sheet ∷ sheets) book p = kept P more sheets (filed l book sheet) (go (filing l book sheet) refl)
     where
-      go : (r : Response) → filing l book sheet ≡ r → P (after r (withEntry l book sheet) book)
+      go : (r : Response) → filing l book sheet ≡ r → P (after r (withEntry l book sheet (answer sheet)) book)
       go (refused n) h = p
       go (complete bytes) h = more book sheet bytes p (complete-filing book sheet bytes h)
 
-  sound-kept : (book sheet bytes : List ℕ) → Sound l book → Complete book sheet bytes → Sound l (withEntry l book sheet)
-  sound-kept book sheet bytes is new = still-sound l usable book sheet is (new .room) (new .slot)
+  sound-kept : (book sheet bytes : List ℕ) → Sound l book → Complete book sheet bytes → Sound l (withEntry l book sheet (answer sheet))
+  sound-kept book sheet bytes is new = still-sound l usable book sheet (answer sheet) is (new .room) (new .slot) (length-answer sheet)
 
-  entry-kept : (e : ℕ) (s a : List ℕ) (book sheet bytes : List ℕ) → Holds e s a book → Complete book sheet bytes → Holds e s a (withEntry l book sheet)
+  entry-kept : (e : ℕ) (s a : List ℕ) (book sheet bytes : List ℕ) → Holds e s a book → Complete book sheet bytes → Holds e s a (withEntry l book sheet (answer sheet))
   entry-kept e s a book sheet bytes h new =
       record {
-        is = still-sound l usable book sheet (h .is) (new .room) (new .slot);
-        below = rw (raised l usable book sheet (h .is) (new .room) (new .slot)) (omega (arith, h .below));
-        sheet-there = same-sheet l usable book sheet (h .is) (new .room) (new .slot) e (h .below) ∙ h .sheet-there;
-        answer-there = same-answer l usable book sheet (h .is) (new .room) (new .slot) e (h .below) ∙ h .answer-there;
+        is = still-sound l usable book sheet (answer sheet) (h .is) (new .room) (new .slot) (length-answer sheet);
+        below = rw (raised l usable book sheet (answer sheet) (h .is) (new .room) (new .slot) (length-answer sheet)) (omega (arith, h .below));
+        sheet-there = same-sheet l usable book sheet (answer sheet) (h .is) (new .room) (new .slot) (length-answer sheet) e (h .below) ∙ h .sheet-there;
+        answer-there = same-answer l usable book sheet (answer sheet) (h .is) (new .room) (new .slot) (length-answer sheet) e (h .below) ∙ h .answer-there;
       }
 
-  entry-new : (book sheet bytes : List ℕ) → Complete book sheet bytes → Holds (count l book) sheet bytes (withEntry l book sheet)
+  entry-new : (book sheet bytes : List ℕ) → Complete book sheet bytes → Holds (count l book) sheet bytes (withEntry l book sheet (answer sheet))
   entry-new book sheet bytes new =
       record {
-        is = still-sound l usable book sheet (new .is) (new .room) (new .slot);
-        below = rw (raised l usable book sheet (new .is) (new .room) (new .slot)) (omega arith);
-        sheet-there = new-sheet l usable book sheet (new .is) (new .room) (new .slot);
-        answer-there = new-answer l usable book sheet (new .is) (new .room) (new .slot) ∙ new .same;
+        is = still-sound l usable book sheet (answer sheet) (new .is) (new .room) (new .slot) (length-answer sheet);
+        below = rw (raised l usable book sheet (answer sheet) (new .is) (new .room) (new .slot) (length-answer sheet)) (omega arith);
+        sheet-there = new-sheet l usable book sheet (answer sheet) (new .is) (new .room) (new .slot) (length-answer sheet);
+        answer-there = new-answer l usable book sheet (answer sheet) (new .is) (new .room) (new .slot) (length-answer sheet) ∙ new .same;
       }
 
   reads : (e : ℕ) (sheet bytes book : List ℕ) → responseTo sheet ≡ complete bytes → Holds e sheet bytes book → reading l book e ≡ complete (sheet ++ bytes)
@@ -100,5 +105,5 @@ module _ (l : Layout) (usable : Usable l) where
       let is : Sound l book = kept (Sound l) sound-kept before (made l lent c) (new-book lent c made-so) in
       let new = complete-filing book sheet bytes filed-so in
       let there : Holds (count l book) sheet bytes (filed l book sheet) = rw filed-so (entry-new book sheet bytes new) in
-      reads (count l book) sheet bytes (filedAll l (filed l book sheet) later) (new .answered)
-      (kept (Holds (count l book) sheet bytes) (entry-kept (count l book) sheet bytes) later (filed l book sheet) there)
+      let there-still = kept (Holds (count l book) sheet bytes) (entry-kept (count l book) sheet bytes) later (filed l book sheet) there in
+      (reads (count l book) sheet bytes (filedAll l (filed l book sheet) later) (new .answered) there-still, there-still .sheet-there, there-still .answer-there)

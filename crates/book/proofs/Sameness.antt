@@ -1,13 +1,23 @@
 -- Two runs of bytes compared byte by byte.
 -- Assumes nothing.
 use mathlib.Core.Path.{_≡_, refl}
-use mathlib.Core.Bool.{true}
+use mathlib.Core.Bool.{true, false≢true, and-eq-true-iff}
 use mathlib.Core.List.{List, [], _∷_}
 use Prim.Native.Nat.{ℕ}
-use borrow.Author.Tests.{eq-eqb}
+use lib.Dec.{eqb}
+use borrow.Author.Tests.{eq-eqb, eqb-true}
 use Rattle.book.specs.Refusals.{sameBytes}
 
 pub same-self : (bytes : List ℕ) → sameBytes bytes bytes ≡ true
 unfolding sameBytes
 same-self [] = refl
 same-self (x ∷ xs) = rw (eq-eqb x x refl, same-self xs)
+
+pub same-equal : (a b : List ℕ) → sameBytes a b ≡ true → a ≡ b
+unfolding sameBytes
+same-equal [] [] e = refl
+same-equal [] (y ∷ ys) e = absurd (false≢true e)
+same-equal (x ∷ xs) [] e = absurd (false≢true e)
+same-equal (x ∷ xs) (y ∷ ys) e =
+    let both = and-eq-true-iff (eqb x y) (sameBytes xs ys) .0 e in
+    rw (eqb-true x y (both .0), same-equal xs ys (both .1))

@@ -5,7 +5,6 @@ use mathlib.Core.List.{List}
 use lib.ListN.{replicate}
 use Rattle.overlay.specs.Overlay.{part, overlay}
 use Rattle.sheet.specs.Bytes.{bytesOf}
-use Rattle.sheet.specs.Answer.{answer}
 use Rattle.layout.specs.declared.places.Layout.{Layout}
 use Rattle.layout.specs.Sizes.{capacity, count}
 use Rattle.layout.specs.Layout.{answerSize, countAt, sheetAt, answerAt, bytesFor}
@@ -23,12 +22,13 @@ module _ (l : Layout) where
   newBook c = overlay (replicate (bytesFor l c) 0) (l .lead) (bytesOf (l .width) c)
 
   -- "Filing writes slot n in both arrays"
-  unfoldable pub withSlots : List ℕ → List ℕ → List ℕ
-  withSlots b sheet = overlay (overlay b (sheetAt l (count l b)) sheet) (answerAt l (capacity l b) (count l b)) (answer sheet)
+  unfoldable pub withSlots : List ℕ → List ℕ → List ℕ → List ℕ
+  withSlots b sheet bytes = overlay (overlay b (sheetAt l (count l b)) sheet) (answerAt l (capacity l b) (count l b)) bytes
 
+  -- "raises n by one"
   unfoldable pub withCount : List ℕ → ℕ → List ℕ
   withCount b n = overlay b (countAt l) (bytesOf (l .width) n)
 
-  -- "raises n by one, … and changes nothing else."
-  abbrev pub withEntry : List ℕ → List ℕ → List ℕ
-  withEntry b sheet = withCount (withSlots b sheet) (count l b + 1)
+  -- "and changes nothing else"
+  abbrev pub withEntry : List ℕ → List ℕ → List ℕ → List ℕ
+  withEntry b sheet bytes = withCount (withSlots b sheet bytes) (count l b + 1)

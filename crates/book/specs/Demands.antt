@@ -7,7 +7,7 @@ use mathlib.Core.List.{List, [], _∷_, _++_}
 use lib.ListN.{length, getD}
 use Rattle.quadrature.specs.Ladder.{rungs, thicknessAt}
 use Rattle.quadrature.specs.Cuttings.{lowerSum, upperSum}
-use Rattle.refusals.specs.Cases.{NoneHolds}
+use Rattle.refusals.specs.Cases.{Case, NoneHolds}
 use Rattle.refusals.specs.Response.{refused, complete, FirstOrComplete}
 use Rattle.balance.specs.declared.verdict.Verdict.{Verdict}
 use Rattle.balance.specs.declared.verdict.Verdict.the-variants.{Sufficient, Insufficient, Undecided}
@@ -26,14 +26,29 @@ use Rattle.layout.specs.Sizes.{count}
 use Rattle.book.specs.Book.{storedSheet, storedAnswer}
 use Rattle.book.specs.Refusals.{makingCases, filingCases, readingCases, making, made, filing, filed, reading}
 
+-- the numbers of a list of cases
+unfoldable pub numbers : List Case → List ℕ
+numbers [] = []
+numbers (c ∷ cs) = c .number ∷ numbers cs
+
+-- "Tests run in this order." (01, "Sent back because of the sheet")
+abbrev pub sheetOrder : List ℕ
+sheetOrder = 11 ∷ 12 ∷ 13 ∷ 14 ∷ 15 ∷ 16 ∷ 17 ∷ 18 ∷ []
+
 -- Demand 1: "The answer to every sheet and to every book, sound or damaged, is the number of the first listed refusal, in the listed order,
--- whose stated case holds, and is complete when none holds": of each of the four calls, for every layout
+-- whose stated case holds, and is complete when none holds; a refused filing changes no byte of the book, and a caller has nothing to check
+-- beforehand." This says it of each of the four calls, for every layout; no call has a `requires`.
 pub record Demand1 : Type 0 where
   pub of-sheets : (sheet : List ℕ) → FirstOrComplete (cases sheet) (answer sheet) (responseTo sheet)
   pub of-making : (l : Layout) (book : List ℕ) (c : ℕ) → FirstOrComplete (makingCases l book c) [] (making l book c)
   pub of-filing : (l : Layout) (book sheet : List ℕ) → FirstOrComplete (filingCases l book sheet) (answer sheet) (filing l book sheet)
   pub of-reading : (l : Layout) (book : List ℕ) (e : ℕ) → FirstOrComplete (readingCases l book e) (storedSheet l book e ++ storedAnswer l book e) (reading l book e)
-  -- "a refused filing changes no byte of the book", and no more does a refused making
+  -- the listed orders
+  pub sheet-order : (sheet : List ℕ) → numbers (cases sheet) ≡ sheetOrder
+  pub making-order : (l : Layout) (book : List ℕ) (c : ℕ) → numbers (makingCases l book c) ≡ (31 ∷ [])
+  pub filing-order : (l : Layout) (book sheet : List ℕ) → numbers (filingCases l book sheet) ≡ (31 ∷ 32 ∷ 34 ∷ sheetOrder)
+  pub reading-order : (l : Layout) (book : List ℕ) (e : ℕ) → numbers (readingCases l book e) ≡ (31 ∷ 32 ∷ 33 ∷ 35 ∷ [])
+  -- a refused filing changes no byte, nor does a refused making
   pub filing-refused : (l : Layout) (book sheet : List ℕ) (n : ℕ) → filing l book sheet ≡ refused n → filed l book sheet ≡ book
   pub making-refused : (l : Layout) (book : List ℕ) (c n : ℕ) → making l book c ≡ refused n → made l book c ≡ book
 
@@ -79,7 +94,10 @@ ReadsBack l =
     (before : List (List ℕ)) (sheet bytes : List ℕ) →
     let book = filedAll l (made l lent c) before in
     filing l book sheet ≡ complete bytes →
-    (later : List (List ℕ)) → reading l (filedAll l (filed l book sheet) later) (count l book) ≡ complete (sheet ++ bytes)
+    (later : List (List ℕ)) →
+    let kept = filedAll l (filed l book sheet) later in
+    let e = count l book in
+    (reading l kept e ≡ complete (sheet ++ bytes)) × (storedSheet l kept e ≡ sheet) × (storedAnswer l kept e ≡ bytes)
 
 -- Demand 2, of sheets and of the book
 abbrev pub Demand2 : Type 0

@@ -62,7 +62,7 @@ module _ (l : Layout) where
   filing b sheet = respond (filingCases b sheet) (answer sheet)
 
   abbrev pub filed : List ℕ → List ℕ → List ℕ
-  filed b sheet = after (filing b sheet) (withEntry l b sheet) b
+  filed b sheet = after (filing b sheet) (withEntry l b sheet (answer sheet)) b
 
   -- "Reading entry e (0 to n − 1) works the sheet out again and returns the stored sheet with the stored answer."
   abbrev pub reading : List ℕ → ℕ → Response

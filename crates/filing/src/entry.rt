@@ -4,7 +4,7 @@ ghost use Prim.Native.Nat.{_+_, _≤_, _<_};
 ghost use lib.ListN.{length};
 ghost use Rattle.overlay.specs.Overlay.{overlay as Overlay·overlay};
 ghost use Rattle.refusals.specs.Cases.{NoneHolds};
-ghost use Rattle.sheet.specs.Answer.{encoded, answer as Answer·answer};
+ghost use Rattle.sheet.specs.Answer.{encoded};
 ghost use Rattle.outcome.specs.Outcome.{response};
 ghost use Rattle.layout.specs.Layout.{header};
 ghost use Rattle.refusals.specs.Response.{complete};
@@ -29,9 +29,9 @@ pub(crate) fn enter(
 ) -> Outcome
     requires { ⌜ Usable layout × NoneHolds (bookCases layout (now book)) ⌝ }
     requires { ⌜ (sizes .capacity ≡ capacity layout (now book)) × (sizes .count ≡ count layout (now book)) ⌝ }
-    requires { ⌜ (sizes .count < sizes .capacity) × (length (now sheet) ≡ layout .sheet) × (encoded answer ≡ Answer·answer (now sheet)) ⌝ }
+    requires { ⌜ (sizes .count < sizes .capacity) × (length (now sheet) ≡ layout .sheet) ⌝ }
     ensures { λ r. ⌜ response r ≡ complete (encoded answer) ⌝ }
-    ensures { λ _. ⌜ now (book .exit) ≡ withEntry layout (now (book .entry)) (now (sheet .entry)) ⌝ }
+    ensures { λ _. ⌜ now (book .exit) ≡ withEntry layout (now (book .entry)) (now (sheet .entry)) (encoded answer) ⌝ }
 {
     store(layout, book, sizes, sheet, answer);
     Outcome::Answered(answer)
@@ -41,8 +41,8 @@ pub(crate) fn enter(
 fn store(layout: Layout, book: &mut [u8], sizes: Sizes, sheet: &[u8], answer: Answer)
     requires { ⌜ Usable layout × NoneHolds (bookCases layout (now book)) ⌝ }
     requires { ⌜ (sizes .capacity ≡ capacity layout (now book)) × (sizes .count ≡ count layout (now book)) ⌝ }
-    requires { ⌜ (sizes .count < sizes .capacity) × (length (now sheet) ≡ layout .sheet) × (encoded answer ≡ Answer·answer (now sheet)) ⌝ }
-    ensures { λ _. ⌜ now (book .exit) ≡ withEntry layout (now (book .entry)) (now (sheet .entry)) ⌝ }
+    requires { ⌜ (sizes .count < sizes .capacity) × (length (now sheet) ≡ layout .sheet) ⌝ }
+    ensures { λ _. ⌜ now (book .exit) ≡ withEntry layout (now (book .entry)) (now (sheet .entry)) (encoded answer) ⌝ }
 {
     fill_slots(layout, book, sizes, sheet, answer);
     put_count(layout, book, sizes.count + 1);
@@ -52,8 +52,8 @@ fn store(layout: Layout, book: &mut [u8], sizes: Sizes, sheet: &[u8], answer: An
 fn fill_slots(layout: Layout, book: &mut [u8], sizes: Sizes, sheet: &[u8], answer: Answer)
     requires { ⌜ Usable layout × NoneHolds (bookCases layout (now book)) ⌝ }
     requires { ⌜ (sizes .capacity ≡ capacity layout (now book)) × (sizes .count ≡ count layout (now book)) ⌝ }
-    requires { ⌜ (sizes .count < sizes .capacity) × (length (now sheet) ≡ layout .sheet) × (encoded answer ≡ Answer·answer (now sheet)) ⌝ }
-    ensures { λ _. ⌜ now (book .exit) ≡ withSlots layout (now (book .entry)) (now (sheet .entry)) ⌝ }
+    requires { ⌜ (sizes .count < sizes .capacity) × (length (now sheet) ≡ layout .sheet) ⌝ }
+    ensures { λ _. ⌜ now (book .exit) ≡ withSlots layout (now (book .entry)) (now (sheet .entry)) (encoded answer) ⌝ }
 {
     let bytes = answer.encode();
     let sheet_at = layout.sheet_at(sizes.count);

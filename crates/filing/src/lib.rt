@@ -31,7 +31,7 @@ pub fn file(book: &mut [u8], sheet: &[u8]) -> Outcome
 
 // Files in a sound book of these sizes.
 fn file_in(layout: Layout, book: &mut [u8], sizes: Sizes, sheet: &[u8]) -> Outcome
-    requires { ⌜ Usable layout × NoneHolds (bookCases layout (now book)) ⌝ }
+    requires { ⌜ Usable layout × (layout .sheet ≡ 24) × NoneHolds (bookCases layout (now book)) ⌝ }
     requires { ⌜ (sizes .capacity ≡ capacity layout (now book)) × (sizes .count ≡ count layout (now book)) ⌝ }
     ensures { λ r. ⌜ response r ≡ filing layout (now (book .entry)) (now (sheet .entry)) ⌝ }
     ensures { λ _. ⌜ now (book .exit) ≡ filed layout (now (book .entry)) (now (sheet .entry)) ⌝ }

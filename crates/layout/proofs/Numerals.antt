@@ -6,8 +6,9 @@ use Prim.Native.Nat.{ℕ, zero, suc, _+_, _*_, _/_, _%_, _^_, _≤_, _<_}
 use native.Mathlib.Nat.{pow-suc, pow-le-pow-right, div-one, add-zero, add-suc, zero-add, le-refl, div-eq-of-lt, div-div-eq-div-mul, div-add-mod'}
 use native.Mathlib.Omega.{arith}
 use lib.ListN.{length, getD, drop, replicate, getD-replicate}
-use lib.Seq.{getD-take, getD-drop}
-use Rattle.overlay.specs.Overlay.{part}
+use lib.Seq.{getD-take, getD-drop, take-all}
+use Rattle.overlay.specs.Overlay.{part, overlay}
+use Rattle.overlay.proofs.Parts.{part-at}
 use Rattle.sheet.specs.Bytes.{bigEndian, bytesOf}
 
 -- a number is read from its own bytes alone
@@ -47,6 +48,14 @@ leading j (suc k) x lt =
 pub number-bytes : (n x : ℕ) → x < 256 ^ n → bigEndian (bytesOf n x) 0 n ≡ x
 number-bytes n x lt = (rw (zero-add n) at (leading 0 n x (rw (zero-add n) lt))) ∙ div-one x
 
+-- and is read where its bytes were put
+pub number-put : (b : List ℕ) (at n x : ℕ) → at ≤ length b → x < 256 ^ n → bigEndian (overlay b at (bytesOf n x)) at n ≡ x
+number-put b at n x within lt =
+    let bytes = bytesOf n x in
+    let size = length-bytes n x in
+    let there : part (overlay b at bytes) at n ≡ bytes = rw size at (part-at b at bytes within) in
+    same-number (overlay b at bytes) bytes at 0 n (there ∙ sym (take-all n bytes (omega (arith, size)))) ∙ number-bytes n x lt
+
 -- a number in zeros is 0
 pub number-zeros : (size at n : ℕ) → at + n ≤ size → bigEndian (replicate {A = ℕ} size 0) at n ≡ 0
 unfolding bigEndian
@@ -54,6 +63,6 @@ number-zeros size at zero within = refl
 number-zeros size at (suc n) within =
     rw (number-zeros size at n (omega arith), getD-replicate {A = ℕ} size (at + n) 0 0 (omega arith))
 
--- a number below a power of 256 that has no more than three digits
+-- a number below a power of 256 with an exponent of at most 3
 pub below-power : (i n : ℕ) → i < 4 → n < 256 ^ i → n < 16_777_216
 below-power i n lt below = omega (arith, pow-le-pow-right {n = 256} (omega arith) {i = i} {j = 3} (omega arith))

@@ -1,11 +1,6 @@
--- What the inner functions ask of a layout. The calls ask nothing: 01's layout is such a one.
+-- What the inner functions ask of a layout. The calls ask nothing: 01's layout meets this.
 -- Assumes nothing.
-use Prim.Native.Nat.{ℕ, _^_, _≤_, _<_}
-use mathlib.Core.Path.{_≡_}
-use mathlib.Core.List.{List}
-use lib.ListN.{length}
-use Rattle.refusals.specs.Response.{complete}
-use Rattle.sheet.specs.Refusals.{responseTo}
+use Prim.Native.Nat.{_^_, _≤_, _<_}
 use Rattle.layout.specs.declared.places.Layout.{Layout}
 use Rattle.layout.specs.Layout.{bytesFor}
 
@@ -15,5 +10,3 @@ pub record Usable (l : Layout) : Type 0 where
   pub held : l .largest < 256 ^ l .width
   -- the largest book has fewer than 2³² bytes
   pub addressed : bytesFor l (l .largest) < 4_294_967_296
-  -- a sheet that is answered fills its slot
-  pub filled : (sheet bytes : List ℕ) → responseTo sheet ≡ complete bytes → length sheet ≡ l .sheet

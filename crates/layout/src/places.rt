@@ -26,7 +26,7 @@ impl Layout {
     }
 
     // Where the sizes end.
-    pub fn header(self) -> usize
+    pub(crate) fn header(self) -> usize
         requires { ⌜ Usable self ⌝ }
         ensures { λ r. ⌜ r ≡ Layout·header self ⌝ }
     {

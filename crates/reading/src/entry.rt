@@ -1,34 +1,20 @@
 // An entry as it is stored, and whether it is a sheet with its answer.
 ghost use mathlib.Core.Path.{_≡_};
-ghost use Prim.Native.Nat.{_+_, _≤_, _<_};
+ghost use Prim.Native.Nat.{_+_, _≤_};
 ghost use lib.ListN.{length};
 ghost use Rattle.overlay.specs.Overlay.{part};
 ghost use Rattle.sheet.specs.Refusals.{responseTo};
-ghost use Rattle.layout.specs.Layout.{sheetAt, answerAt};
-ghost use Rattle.layout.specs.Sizes.{capacity};
 ghost use Rattle.book.specs.Refusals.{sameBytes, gives};
-ghost use Rattle.layout.specs.Usable.{Usable};
-use layout::Layout;
 use outcome::Outcome;
 use outcome::work_out;
 
-// What stands in slot e of each array.
-pub(crate) fn stored_sheet(layout: Layout, book: &[u8], e: u64) -> &[u8]
-    requires { ⌜ Usable layout × (e < layout .largest) × (sheetAt layout e + layout .sheet ≤ length (now book)) ⌝ }
-    ensures { λ r. ⌜ now r ≡ part (now (book .entry)) (sheetAt layout e) (layout .sheet) ⌝ }
+// The bytes of a slot.
+pub(crate) fn slot(book: &[u8], at: usize, size: usize) -> &[u8]
+    requires { ⌜ at + size ≤ length (now book) ⌝ }
+    ensures { λ r. ⌜ now r ≡ part (now (book .entry)) at size ⌝ }
 {
-    let from = layout.sheet_at(e);
-    let to = from + layout.sheet;
-    &book[from..to]
-}
-
-pub(crate) fn stored_answer(layout: Layout, book: &[u8], capacity: u64, e: u64) -> &[u8]
-    requires { ⌜ Usable layout × (capacity ≤ layout .largest) × (e < capacity) × (answerAt layout capacity e + 8 ≤ length (now book)) ⌝ }
-    ensures { λ r. ⌜ now r ≡ part (now (book .entry)) (answerAt layout capacity e) 8 ⌝ }
-{
-    let from = layout.answer_at(capacity, e);
-    let to = from + 8;
-    &book[from..to]
+    let end = at + size;
+    &book[at..end]
 }
 
 // Whether the sheet is answered, and with these eight bytes.

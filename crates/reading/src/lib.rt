@@ -15,15 +15,14 @@ ghost use Rattle.book.specs.Refusals.{reading};
 ghost use Rattle.refusals.specs.Completion.{responseWith};
 ghost use Rattle.layout.specs.Usable.{Usable};
 use crate::entry::is_answer;
-use crate::entry::stored_answer;
-use crate::entry::stored_sheet;
+use crate::entry::slot;
 use layout::Examination;
 use layout::Layout;
 use layout::Sizes;
 use refusals::Completion;
 use refusals::Refusal;
 
-// Reads entry e into the two lent arrays, once its sheet is worked out again.
+// Reads an entry into the two lent arrays, after working its sheet out again.
 pub fn read(book: &[u8], entry: u64, sheet: &mut [u8; 24], answer: &mut [u8; 8]) -> Completion
     ensures { λ r. ⌜ responseWith r (now (sheet .exit) ++ now (answer .exit)) ≡ reading standard (now (book .entry)) entry ⌝ }
     ensures { λ _. ⌜ now (sheet .exit) ≡ after (reading standard (now (book .entry)) entry) (storedSheet standard (now (book .entry)) entry) (now (sheet .entry)) ⌝ }
@@ -55,11 +54,13 @@ fn read_in(
     if sizes.count <= entry {
         return Completion::Refused(Refusal::NoSuchEntry);
     }
-    let stored = stored_sheet(layout, book, entry);
-    let filed = stored_answer(layout, book, sizes.capacity, entry);
-    if is_answer(stored, filed) {
-        bytes::copy(stored, sheet);
-        bytes::copy(filed, answer);
+    let sheet_at = layout.sheet_at(entry);
+    let answer_at = layout.answer_at(sizes.capacity, entry);
+    let stored_sheet = slot(book, sheet_at, layout.sheet);
+    let stored_answer = slot(book, answer_at, 8);
+    if is_answer(stored_sheet, stored_answer) {
+        bytes::copy(stored_sheet, sheet);
+        bytes::copy(stored_answer, answer);
         return Completion::Complete;
     }
     Completion::Refused(Refusal::EntryUnsound)

@@ -39,7 +39,7 @@ file-in-requires : tie.Need-file-in-requires
 file-in-requires c κs =
     let k = c .before .before .before .before in
     let known = undamaged standard (b k) (c .before .before .sizes .given .0 .0) (sym (ap examined (c .before .before .sizes .given .1)) ∙ told k) in
-    rw (k .before .before .standard .ensures) ((standard-usable, known .0), (known .1, known .2))
+    rw (k .before .before .standard .ensures) ((standard-usable, refl, known .0), (known .1, known .2))
 
 same-length : tie.Need-same-length
 same-length c = search needs

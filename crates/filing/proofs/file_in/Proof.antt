@@ -10,6 +10,7 @@ use Rattle.refusals.proofs.Response.{completed}
 use Rattle.sheet.specs.Answer.{encoded, answer}
 use Rattle.sheet.specs.Refusals.{cases, responseTo}
 use Rattle.book.specs.Refusals.{filing}
+use Rattle.book.proofs.ReadingBack.{sheet-size}
 use Rattle.layout.proofs.Soundness.{sound, sized}
 use Rattle.filing.proofs.Responses.{full, room}
 use Rattle.layout.specs.declared.places.Layout.{Layout}
@@ -28,7 +29,7 @@ module _ (c : tie.Start) where
 
 -- the sheet decides where 34 does not hold
 decided : (c : tie.Else1) → let start = c .before .before .before .before in filing (l start) (b start) (sheet start) ≡ responseTo (sheet start)
-decided c = let start = c .before .before .before .before in room (l start) (b start) (start .pre .0 .1) (start .args .sizes .capacity) (start .args .sizes .count) (start .pre .1 .0) (start .pre .1 .1) (sheet start) (c .if1 .left)
+decided c = let start = c .before .before .before .before in room (l start) (b start) (start .pre .0 .2) (start .args .sizes .capacity) (start .args .sizes .count) (start .pre .1 .0) (start .pre .1 .1) (sheet start) (c .if1 .left)
 
 -- and is answered
 answered : (c : tie.After-answer) → complete (encoded (c .answer .given .0 .0)) ≡ responseTo (sheet (c .before .before .before .before .before .before .before))
@@ -37,7 +38,7 @@ answered c = rw (c .answer .given .1) at (c .before .before .work-out .ensures)
 returns : tie.Need-returns
 returns c =
     let start = c .before .before .before .before in
-    let is = full (l start) (b start) (start .pre .0 .1) (start .args .sizes .capacity) (start .args .sizes .count) (start .pre .1 .0) (start .pre .1 .1) (sheet start) (c .if1 .taken) in
+    let is = full (l start) (b start) (start .pre .0 .2) (start .args .sizes .capacity) (start .args .sizes .count) (start .pre .1 .0) (start .pre .1 .1) (sheet start) (c .if1 .taken) in
     (sym is, rw is refl)
 
 work-out-requires : tie.Need-work-out-requires
@@ -53,10 +54,8 @@ enter-requires : tie.Need-enter-requires
 enter-requires c κs =
     let k = c .before .before .before .before .before in
     let start = k .before .before .before .before in
-    let known = sized (l start) (b start) (start .args .sizes .capacity) (start .args .sizes .count) (sound (l start) (b start) (start .pre .0 .1)) (start .pre .1 .0) (start .pre .1 .1) in
-    let done = completed (cases (sheet start)) (answer (sheet start)) _ (sym (answered (c .before .before))) in
-    let room : start .args .sizes .count < start .args .sizes .capacity = omega (arith, known .2, k .if1 .left) in
-    (start .pre .0, (start .pre .1, (room, start .pre .0 .0 .filled (sheet start) _ (sym (answered (c .before .before))), sym (done .1))))
+    let known = sized (l start) (b start) (start .args .sizes .capacity) (start .args .sizes .count) (sound (l start) (b start) (start .pre .0 .2)) (start .pre .1 .0) (start .pre .1 .1) in
+    ((start .pre .0 .0, start .pre .0 .2), (start .pre .1, (omega (arith, known .2, k .if1 .left), sheet-size (sheet start) _ (sym (answered (c .before .before))) ∙ sym (start .pre .0 .1))))
 
 returns-2 : tie.Need-returns-2
 returns-2 c =
@@ -69,8 +68,11 @@ same-length c = search needs
 
 returns-3 : tie.Need-returns-3
 returns-3 c =
-    let is = decided (c .before .before .before .before .before .before .before .before) ∙ sym (answered (c .before .before .before .before .before)) in
-    (c .before .before .enter .ensures .0 ∙ sym is, rw is (c .before .before .enter .ensures .1))
+    let k = c .before .before .before .before .before in
+    let start = c .before .before .before .before .before .before .before .before .before .before .before .before in
+    let is = decided (c .before .before .before .before .before .before .before .before) ∙ sym (answered k) in
+    let same = completed (cases (sheet start)) (answer (sheet start)) _ (sym (answered k)) .1 in
+    (c .before .before .enter .ensures .0 ∙ sym is, rw (is, same) (c .before .before .enter .ensures .1))
 
 pub file-in-spec : {M : Type 1} → statement M
 file-in-spec =

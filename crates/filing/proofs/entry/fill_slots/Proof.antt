@@ -11,7 +11,7 @@ use Rattle.layout.specs.Layout.{bytesFor}
 use Rattle.layout.specs.Sizes.{capacity, count}
 use Rattle.book.specs.Book.{withSlots}
 use Rattle.layout.proofs.Soundness.{sound, sized}
-use Rattle.book.proofs.Entries.{length-answer}
+use Rattle.book.proofs.Entries.{length-encoded}
 use Rattle.layout.specs.declared.places.Layout.{Layout}
 use Rattle.layout.specs.declared.examination.Sizes.{Sizes}
 use Rattle.filing.proofs.entry.fill_slots.Statement.{statement}
@@ -52,7 +52,7 @@ slice-aggregate-put-slots c = search needs
 put-slots-requires : tie.Need-put-slots-requires
 put-slots-requires c κs =
     let start = c .before .before .before .before .before .before .before in
-    let answer-size = ap length (c .before .before .before .before .encode .ensures ∙ start .pre .1 .1 .2) ∙ length-answer (sheet start) in
+    let answer-size = ap length (c .before .before .before .before .encode .ensures) ∙ length-encoded _ in
     (omega (arith, slots start, known start .1, start .pre .1 .1 .1, c .before .before .before .sheet-at .ensures), omega (arith, slots start, known start .1, answer-size, c .before .before .answer-at .ensures, start .pre .1 .1 .0))
 
 same-length : tie.Need-same-length
@@ -62,7 +62,7 @@ returns : tie.Need-returns
 unfolding withSlots
 returns c =
     let start = c .before .before .before .before .before .before .before .before .before .before in
-    let bytes = c .before .before .before .before .before .before .before .encode .ensures ∙ start .pre .1 .1 .2 in
+    let bytes = c .before .before .before .before .before .before .before .encode .ensures in
     rw (c .before .before .before .before .before .before .sheet-at .ensures, c .before .before .before .before .before .answer-at .ensures, bytes, start .pre .1 .0 .0, start .pre .1 .0 .1) at (c .before .before .put-slots .ensures)
 
 pub fill-slots-spec : {M : Type 1} → statement M

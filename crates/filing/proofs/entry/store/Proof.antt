@@ -5,6 +5,7 @@ use mathlib.Core.List.{List}
 use Prim.Native.Nat.{ℕ, _+_, _-_}
 use native.Mathlib.Omega.{arith}
 use borrow.Author.Needs.{needs}
+use Rattle.sheet.specs.Answer.{encoded}
 use Rattle.layout.proofs.Soundness.{sound}
 use Rattle.book.specs.Book.{withSlots, withCount}
 use Rattle.filing.proofs.entry.store.Statement.{statement}
@@ -29,7 +30,7 @@ returns c =
     let start = c .before .before .before .before .before .before .before .before .before .before .before in
     c .before .before .put-count .ensures
     ∙ ap (λ (x : List ℕ). withCount (start .args .layout) x (start .args .sizes .count + 1)) (c .before .before .before .before .before .before .before .fill-slots .ensures)
-    ∙ ap (λ (n : ℕ). withCount (start .args .layout) (withSlots (start .args .layout) (start .args .book .now) (start .args .sheet .now)) (n + 1)) (start .pre .1 .0 .1)
+    ∙ ap (λ (n : ℕ). withCount (start .args .layout) (withSlots (start .args .layout) (start .args .book .now) (start .args .sheet .now) (encoded (start .args .answer))) (n + 1)) (start .pre .1 .0 .1)
 
 pub store-spec : {M : Type 1} → statement M
 store-spec =
