@@ -1,3 +1,5 @@
+pub mod Worked
+pub mod Orders
 pub mod Zeros
 pub mod Sameness
 pub mod Entries

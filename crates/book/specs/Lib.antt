@@ -1,3 +1,4 @@
 pub mod Book
 pub mod Refusals
+pub mod Worked
 pub mod Demands

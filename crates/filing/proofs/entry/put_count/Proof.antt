@@ -1,6 +1,5 @@
 -- The count goes to its place.
 -- Assumes nothing.
-use Prim.Native.Nat.{_-_}
 use borrow.Author.Needs.{needs}
 use Rattle.book.specs.Book.{withCount}
 use Rattle.filing.proofs.entry.put_count.Statement.{statement}

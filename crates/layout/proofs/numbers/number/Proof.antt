@@ -8,8 +8,6 @@ use native.Mathlib.Omega.{arith}
 use borrow.Author.Needs.{needs}
 use Rattle.sheet.specs.Bytes.{bigEndian}
 use Rattle.layout.proofs.Numerals.{below-power}
-use mathlib.Core.Path.{_≡_, refl}
-use Prim.Native.Nat.{_-_, _^_, _≤_, _<_}
 use Rattle.layout.proofs.numbers.number.Statement.{statement}
 use Rattle.layout.proofs.numbers.number.Tie as tie
 

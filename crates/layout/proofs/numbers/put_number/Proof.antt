@@ -2,7 +2,7 @@
 -- Assumes nothing.
 use mathlib.Core.Path.{_≡_, refl, sym, _∙_}
 use Prim.Native.Nat.{ℕ, suc, _+_, _-_, _/_, _%_, _^_, _≤_}
-use native.Mathlib.Nat.{pow-suc, sub-self, div-div-eq-div-mul}
+use native.Mathlib.Nat.{pow-suc, sub-self, div-div-eq-div-mul, add-zero, sub-zero, div-one}
 use native.Mathlib.Omega.{arith}
 use borrow.Author.Needs.{needs}
 use lib.ListN.{length, length-set}
@@ -10,10 +10,6 @@ use Rattle.overlay.specs.Overlay.{overlay}
 use Rattle.sheet.specs.Bytes.{bytesOf}
 use Rattle.layout.proofs.Numerals.{length-bytes}
 use Rattle.overlay.proofs.Overlay.{nothing, overlay-first}
-use native.Mathlib.Nat.{sub-self, add-zero, sub-zero, div-one}
-use mathlib.Core.Path.{_≡_}
-use Prim.Native.Nat.{_+_, _-_, _/_, _^_, _≤_}
-use lib.ListN.{length}
 use Rattle.layout.proofs.numbers.put_number.Statement.{statement}
 use Rattle.layout.proofs.numbers.put_number.Tie as tie
 

@@ -3,20 +3,18 @@
 use mathlib.Core.Path.{_≡_, refl, sym, _∙_}
 use mathlib.Core.Bool.{true, false}
 use mathlib.Core.List.{List}
-use Prim.Native.Nat.{ℕ, _-_}
+use Prim.Native.Nat.{ℕ}
 use native.Mathlib.Omega.{arith}
 use borrow.Author.Needs.{needs}
 use borrow.Author.Tests.{lt-ltb, le-ltb}
 use lib.Dec.{ltb}
 use lib.ListN.{length}
-use Rattle.refusals.proofs.Response.{none-holds}
+use Rattle.refusals.proofs.Response.{none-holds, first-at}
 use Rattle.layout.specs.Layout.{header}
 use Rattle.layout.specs.Sizes.{capacity, count}
 use Rattle.layout.specs.Refusals.{wrongSize, bookCases}
 use Rattle.refusals.specs.Cases.{NoneHolds}
-use Rattle.refusals.proofs.Response.{first-at, none-holds}
 use Rattle.layout.specs.declared.places.Layout.{Layout}
-use Prim.Native.Nat.{_-_}
 use Rattle.layout.proofs.places.Layout.examine.Statement.{statement}
 use Rattle.layout.proofs.places.Layout.examine.Tie as tie
 

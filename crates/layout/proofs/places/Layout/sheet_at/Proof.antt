@@ -1,6 +1,5 @@
 -- Where a slot of the sheets starts: below the size of the largest book.
 -- Assumes nothing.
-use Prim.Native.Nat.{_-_}
 use native.Mathlib.Nat.{mul-le-mul-left}
 use native.Mathlib.Omega.{arith}
 use borrow.Author.Needs.{needs}

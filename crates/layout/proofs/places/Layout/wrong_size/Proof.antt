@@ -1,7 +1,7 @@
 -- The tests of refusal 31.
 -- Assumes nothing.
 use mathlib.Core.Bool.{_||_}
-use Prim.Native.Nat.{ℕ, _-_}
+use Prim.Native.Nat.{ℕ}
 use native.Mathlib.Omega.{arith}
 use borrow.Author.Needs.{needs}
 use borrow.Author.Tests.{ltb-false}

@@ -1,0 +1,9 @@
+//! Two further implementations of the paper's rules, and the sheets on which
+//! the proved library is compared with them.
+
+pub mod both;
+pub mod float;
+pub mod plain;
+pub mod sheets;
+#[cfg(target_arch = "x86_64")]
+pub mod stack;

@@ -1,0 +1,273 @@
+//! Sheets for which have equals need to the last digit, and bare pipes and
+//! walls.
+
+use super::draft::{
+    any_draft, any_rung, any_sort, push_found, push_neighbours, put, put_field, put_temperatures,
+    Draft,
+};
+use super::{Batch, Random};
+use crate::plain::{self, Field, Goal, Shape};
+
+/// A product of small primes.
+fn smooth(random: &mut Random, least: i32, greatest: i32) -> i32 {
+    loop {
+        let mut value = 1;
+        while value < least {
+            value *= random.pick(&[2, 2, 3, 5, 5, 7, 10, 11, 13]);
+        }
+        while value <= greatest && !random.once_in(3) {
+            value *= random.pick(&[2, 3, 5, 7]);
+        }
+        if value <= greatest {
+            return value;
+        }
+    }
+}
+
+fn in_range(field: Field, value: i32) -> Option<i32> {
+    (field.least..=field.greatest)
+        .contains(&value)
+        .then_some(value)
+}
+
+fn greatest_common_divisor(mut a: i64, mut b: i64) -> i64 {
+    while b != 0 {
+        (a, b) = (b, a % b);
+    }
+    a
+}
+
+/// Two numbers in the ratio of a to b, neither above its bound.
+fn in_ratio(random: &mut Random, (a, b): (i64, i64), bounds: (i64, i64)) -> Option<(i32, i32)> {
+    let divisor = greatest_common_divisor(a, b);
+    let (a, b) = (a / divisor, b / divisor);
+    let times = (bounds.0 / a).min(bounds.1 / b);
+    if times == 0 {
+        return None;
+    }
+    let times = 1 + random.below(times as usize) as i64;
+    Some(((a * times) as i32, (b * times) as i32))
+}
+
+/// A flat wall with round figures.
+struct Wall {
+    conductivity: i64,
+    coefficient: i64,
+    rung: i64,
+}
+
+impl Wall {
+    fn any(random: &mut Random) -> Wall {
+        let (l, alpha) = (plain::CONDUCTIVITY, plain::COEFFICIENT);
+        Wall {
+            conductivity: smooth(random, l.least, l.greatest).into(),
+            coefficient: smooth(random, alpha.least, alpha.greatest).into(),
+            rung: any_rung(random).into(),
+        }
+    }
+
+    fn draft(&self, random: &mut Random, goal: Goal, temperatures: (i32, i32), aim: i32) -> Draft {
+        let (_, service, _) = any_sort(random);
+        let mut draft = any_draft(random, (goal, service, Shape::Flat));
+        put_field(&mut draft, plain::CONDUCTIVITY, self.conductivity as i32);
+        put_field(&mut draft, plain::COEFFICIENT, self.coefficient as i32);
+        put_temperatures(&mut draft, temperatures);
+        put(&mut draft, plain::AIM_OFFSET, aim);
+        draft
+    }
+
+    /// Δ / aim for which k × 10⁶ + L × 10⁷ / α = LΔ × 10⁵ / aim.
+    fn loss_ratio(&self) -> (i64, i64) {
+        let (l, alpha) = (self.conductivity, self.coefficient);
+        (10 * self.rung * alpha + 100 * l, l * alpha)
+    }
+
+    /// Δ / s for which k × 10⁶ + L × 10⁷ / α = LΔ × 10⁷ / (αs).
+    fn surface_ratio(&self) -> (i64, i64) {
+        let (l, alpha) = (self.conductivity, self.coefficient);
+        (self.rung * alpha + 10 * l, 10 * l)
+    }
+}
+
+const LARGEST_RISE: i64 = (plain::PIPE_TEMPERATURE.greatest - plain::AIR_TEMPERATURE.least) as i64;
+const LARGEST_AIM: i64 = u16::MAX as i64;
+
+/// The Δ that has the ratio to an aim or an s, if it is a whole number.
+fn whole_rise(ratio: (i64, i64), divisor: i32) -> Option<i32> {
+    let product = ratio.0 * i64::from(divisor);
+    let whole = product % ratio.1 == 0 && product / ratio.1 <= LARGEST_RISE;
+    whole.then_some((product / ratio.1) as i32)
+}
+
+/// Temperatures with a rise, the pipe's being in a range.
+fn temperatures_within(random: &mut Random, rise: i32, pipe: (i32, i32)) -> Option<(i32, i32)> {
+    let air = plain::AIR_TEMPERATURE;
+    let least = air.least.max(pipe.0 - rise);
+    let greatest = air.greatest.min(pipe.1 - rise);
+    if greatest < least {
+        return None;
+    }
+    let air = random.between(least, greatest);
+    Some((air + rise, air))
+}
+
+fn temperatures_with(random: &mut Random, rise: i32) -> Option<(i32, i32)> {
+    let pipe = plain::PIPE_TEMPERATURE;
+    temperatures_within(random, rise, (pipe.least, pipe.greatest))
+}
+
+/// Walls whose need, for the aim or at a limit, equals have.
+pub fn wall(random: &mut Random, sheets: &mut Batch) {
+    let makers: [fn(&mut Random) -> Option<Draft>; 4] =
+        [loss_wall, surface_wall, loss_limit_wall, surface_limit_wall];
+    for maker in makers {
+        push_found(random, plain::AIM_OFFSET, maker, sheets);
+    }
+}
+
+/// Need for the loss aim equals have.
+fn loss_wall(random: &mut Random) -> Option<Draft> {
+    let wall = Wall::any(random);
+    let bounds = (LARGEST_RISE, LARGEST_AIM);
+    let (rise, aim) = in_ratio(random, wall.loss_ratio(), bounds)?;
+    let temperatures = temperatures_with(random, rise)?;
+    Some(wall.draft(random, Goal::Loss, temperatures, aim))
+}
+
+/// Need for the surface aim equals have.
+fn surface_wall(random: &mut Random) -> Option<Draft> {
+    let wall = Wall::any(random);
+    let bounds = (LARGEST_RISE, LARGEST_RISE);
+    let (rise, above_air) = in_ratio(random, wall.surface_ratio(), bounds)?;
+    let (pipe, air) = temperatures_with(random, rise)?;
+    Some(wall.draft(random, Goal::Surface, (pipe, air), air + above_air))
+}
+
+/// Need at the printed limit equals have. The aim is one above the limit.
+fn loss_limit_wall(random: &mut Random) -> Option<Draft> {
+    let wall = Wall::any(random);
+    let row = random.below(plain::LOSS_LIMITS.len());
+    let least = 10 * plain::LOSS_LIMITS[row].temperature;
+    let service = random.pick(&plain::SERVICES);
+    let limit = plain::loss_limit(service, least)?.into();
+    let rise = whole_rise(wall.loss_ratio(), limit)?;
+    // The rows are 50.0 °C apart.
+    let greatest = plain::PIPE_TEMPERATURE.greatest.min(i32::from(least) + 499);
+    let temperatures = temperatures_within(random, rise, (least.into(), greatest))?;
+    let mut draft = wall.draft(random, Goal::Loss, temperatures, limit + 1);
+    draft[plain::SERVICE_OFFSET] = service as u8;
+    Some(draft)
+}
+
+/// Need at the surface limit equals have. The aim is one above the limit.
+fn surface_limit_wall(random: &mut Random) -> Option<Draft> {
+    let wall = Wall::any(random);
+    let field = plain::AIR_TEMPERATURE;
+    let air = random.between(field.least, field.greatest);
+    let limit = i32::from(plain::surface_limit(air as i16));
+    let pipe = air + whole_rise(wall.surface_ratio(), limit - air)?;
+    let reached = limit + 1 < pipe && pipe <= plain::PIPE_TEMPERATURE.greatest;
+    reached.then(|| wall.draft(random, Goal::Surface, (pipe, air), limit + 1))
+}
+
+/// Flat walls and bare pipes whose economy need equals have.
+pub fn economy(random: &mut Random, sheets: &mut Batch) {
+    for shape in [Shape::Cylinder, Shape::Flat] {
+        let make = |random: &mut Random| economy_draft(random, shape);
+        push_found(random, plain::HEAT_PRICE.offset, make, sheets);
+    }
+}
+
+/// A film of r mm, so that L × 10⁷ / α = r × 10⁶. With P and S multiples of
+/// the printed coefficient, need² = 1,000 × fLτΔ / (ab). A flat wall has
+/// (k + r) × 10⁶, a bare pipe 2r × 10⁶.
+fn economy_draft(random: &mut Random, shape: Shape) -> Option<Draft> {
+    let (_, service, _) = any_sort(random);
+    let mut draft = any_draft(random, (Goal::Economy, service, shape));
+    let film = smooth(random, 1, 200);
+    let conductivity = smooth(random, 1, plain::CONDUCTIVITY.greatest);
+    let (have, printed) = match shape {
+        Shape::Cylinder => (2 * film, 3_795),
+        Shape::Flat => (i32::from(any_rung(random)) + film, 1_897),
+    };
+    let (a, b) = (random.between(1, 17), random.between(1, 2));
+    let product = i64::from(have).pow(2) * 1_000_000_000 * i64::from(a * b);
+    if 10 * conductivity % film != 0 || product % i64::from(conductivity) != 0 {
+        return None;
+    }
+    let coefficient = in_range(plain::COEFFICIENT, 10 * conductivity / film)?;
+    put_field(&mut draft, plain::CONDUCTIVITY, conductivity);
+    put_field(&mut draft, plain::COEFFICIENT, coefficient);
+    put_field(&mut draft, plain::INSULATION_PRICE, printed * a);
+    put_field(&mut draft, plain::YEARLY_SHARE, printed * b);
+    put_factors(random, &mut draft, product / i64::from(conductivity))?;
+    Some(draft)
+}
+
+/// Puts f, τ and Δ of the given product.
+fn put_factors(random: &mut Random, draft: &mut Draft, product: i64) -> Option<()> {
+    for _ in 0..100 {
+        let hours = smooth(random, 1, plain::HOURS.greatest);
+        let rise = smooth(random, 1, LARGEST_RISE as i32);
+        let divisor = i64::from(hours) * i64::from(rise);
+        if product % divisor != 0 {
+            continue;
+        }
+        let price = i32::try_from(product / divisor).unwrap_or(0);
+        if let Some(price) = in_range(plain::HEAT_PRICE, price) {
+            put_field(draft, plain::HOURS, hours);
+            put_field(draft, plain::HEAT_PRICE, price);
+            put_temperatures(draft, temperatures_with(random, rise)?);
+            return Some(());
+        }
+    }
+    None
+}
+
+/// Bare surfaces at their loss aim and at the surface limit.
+pub fn bare(random: &mut Random, sheets: &mut Batch) {
+    let shape = random.pick(&[Shape::Cylinder, Shape::Flat]);
+    let draft = bare_loss(random, shape);
+    push_neighbours(&draft, plain::AIM_OFFSET, sheets);
+    let draft = bare_at_surface_limit(random, shape);
+    push_neighbours(&draft, plain::COEFFICIENT.offset, sheets);
+}
+
+/// The bare surface loses exactly its aim: αΔ = 100 × aim.
+fn bare_loss(random: &mut Random, shape: Shape) -> Draft {
+    loop {
+        let (_, service, _) = any_sort(random);
+        let mut draft = any_draft(random, (Goal::Loss, service, shape));
+        let field = plain::COEFFICIENT;
+        let coefficient = smooth(random, field.least, field.greatest);
+        let rise = 50 * random.between(1, LARGEST_RISE as i32 / 50);
+        let aim = coefficient * rise / 100;
+        let exact = aim * 100 == coefficient * rise && i64::from(aim) <= LARGEST_AIM;
+        if let (true, Some(temperatures)) = (exact, temperatures_with(random, rise)) {
+            put_temperatures(&mut draft, temperatures);
+            put_field(&mut draft, plain::COEFFICIENT, coefficient);
+            put(&mut draft, plain::AIM_OFFSET, aim);
+            return draft;
+        }
+    }
+}
+
+/// A pipe just above the surface limit in cold air, with so little have that
+/// a nanometre decides, and so cheap a heat that it stays bare.
+fn bare_at_surface_limit(random: &mut Random, shape: Shape) -> Draft {
+    let (_, service, _) = any_sort(random);
+    let mut draft = any_draft(random, (Goal::Economy, service, shape));
+    let air = random.between(plain::AIR_TEMPERATURE.least, -200);
+    put_temperatures(&mut draft, (500 + random.between(1, 2), air));
+    let coefficient = random.between(9_000, 9_999);
+    put_field(&mut draft, plain::CONDUCTIVITY, 1);
+    put_field(&mut draft, plain::COEFFICIENT, coefficient);
+    for field in [plain::HEAT_PRICE, plain::HOURS] {
+        put_field(&mut draft, field, random.between(1, 3));
+    }
+    for field in [plain::INSULATION_PRICE, plain::YEARLY_SHARE] {
+        let value = random.between(field.greatest / 2, field.greatest);
+        put_field(&mut draft, field, value);
+    }
+    draft
+}

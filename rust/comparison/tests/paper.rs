@@ -1,0 +1,109 @@
+//! The figures that the paper prints, from both implementations.
+
+use comparison::both;
+use comparison::plain::{self, Bracket, Logarithm, Refusal, Service};
+use comparison::sheets::{put, Draft};
+
+/// A sheet from its codes, line number, D, t, ta, L, α, the four fields of
+/// economy and the aim.
+fn sheet(codes: [u8; 2], fields: [i32; 11]) -> Draft {
+    let mut draft = [0; plain::SHEET_LENGTH];
+    draft[..2].copy_from_slice(&codes);
+    for (place, value) in fields.into_iter().enumerate() {
+        put(&mut draft, plain::LINE_OFFSET + 2 * place, value);
+    }
+    draft
+}
+
+fn sheet_f(aim: i32) -> Draft {
+    let fields = [7, 12_000, 1_300, 200, 400, 800, 0, 0, 0, 0, aim];
+    sheet([2, 1], fields)
+}
+
+fn sheet_g() -> Draft {
+    let fields = [9, 10_001, 300, 200, 400, 1_163, 0, 0, 0, 0, 1_163];
+    sheet([2, 1], fields)
+}
+
+fn economy(diameter: i32) -> Draft {
+    let fields = [
+        1, diameter, 207, 70, 333, 2_048, 7_500, 2_880, 1_600, 2_296, 0,
+    ];
+    sheet([1, 1], fields)
+}
+
+fn thickness(sheet: &[u8]) -> Result<u16, Refusal> {
+    both::answer(sheet).map(|answer| u16::from_be_bytes([answer[2], answer[3]]))
+}
+
+fn whole(lower: u128, upper: u128) -> Bracket {
+    Bracket { lower, upper }
+}
+
+#[test]
+fn steps() {
+    assert_eq!(plain::lower_step(100), 9_950_248_756);
+    assert_eq!(plain::upper_step(100), 9_950_495_050);
+    let mut logarithm = Logarithm::from_diameter(270);
+    logarithm.extend_to(plain::outer_diameter(270, 0));
+    assert_eq!((logarithm.lower, logarithm.upper), (0, 0));
+}
+
+#[test]
+fn sheet_f_and_its_aims() {
+    assert_eq!(both::answer(&sheet_f(800)), Ok([0, 2, 0, 50, 0, 0, 1, 44]));
+    assert_eq!(thickness(&sheet_f(799)), Ok(60));
+    assert_eq!(thickness(&sheet_f(145)), Ok(300));
+    assert_eq!(thickness(&sheet_f(144)), Err(17));
+
+    let examined = plain::examine(&sheet_f(800)).unwrap();
+    let have = plain::provided_at(&examined, 50);
+    assert_eq!(have, whole(55_000_000, 55_000_000));
+    assert_eq!(plain::required(&examined), have);
+    let examined = plain::examine(&sheet_f(799)).unwrap();
+    assert_eq!(plain::required(&examined), whole(55_068_836, 55_068_837));
+}
+
+#[test]
+fn sheet_g_is_open_at_once() {
+    assert_eq!(thickness(&sheet_g()), Err(18));
+    let examined = plain::examine(&sheet_g()).unwrap();
+    let have = plain::provided_at(&examined, 0);
+    assert_eq!(have, whole(3_439_380, 3_439_381));
+    assert_eq!(plain::required(&examined), have);
+}
+
+#[test]
+fn surface_aim_at_the_pipe() {
+    let fields = [1, 1_000, 1_300, 200, 400, 800, 0, 0, 0, 0, 1_300];
+    assert_eq!(thickness(&sheet([3, 1], fields)), Err(16));
+}
+
+#[test]
+fn limits() {
+    assert_eq!(plain::loss_limit(Service::YearRound, 2_999), Some(1_630));
+    assert_eq!(plain::loss_limit(Service::Seasonal, 4_500), None);
+    assert_eq!(plain::surface_limit(270), 500);
+    assert_eq!(plain::surface_limit(271), 521);
+}
+
+#[test]
+fn shapes() {
+    for (diameter, shape) in [(10_000, 1), (10_001, 2)] {
+        let answer = both::answer(&economy(diameter)).unwrap();
+        assert_eq!(answer[1], shape);
+    }
+}
+
+#[test]
+fn economy_thickness() {
+    assert_eq!(thickness(&economy(270)), Ok(20));
+    assert_eq!(thickness(&economy(320)), Ok(30));
+}
+
+#[test]
+fn wrong_lengths() {
+    for length in 0..24 {
+        assert_eq!(thickness(&sheet_f(800)[..length]), Err(11));
+    }
+}
