@@ -1,4 +1,4 @@
-pub mod Worked
+pub mod Computed
 pub mod Orders
 pub mod Zeros
 pub mod Sameness

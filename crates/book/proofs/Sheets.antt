@@ -3,8 +3,7 @@
 use mathlib.Core.Path.{_≡_, refl, _∙_, ap}
 use mathlib.Core.Bool.{true, false}
 use mathlib.Core.List.{List, [], _∷_}
-use Prim.Native.Nat.{ℕ, _+_, _*_, _/_, _%_, _≤_, _<_}
-use native.Mathlib.Nat.{mod-eq-of-lt, div-add-mod'}
+use Prim.Native.Nat.{ℕ, _≤_, _<_}
 use native.Mathlib.Omega.{arith}
 use lib.Dec.{eqb}
 use borrow.Author.Tests.{eqb-true, eqb-false}
@@ -17,6 +16,7 @@ use Rattle.balance.proofs.Search.{first-within, misses-before, first-not-insuff
 use Rattle.balance.proofs.Judgement.{MeetsOn, MissesOn, meets-stays, sound}
 use Rattle.sheet.specs.declared.fields.Sheet.{Sheet}
 use Rattle.sheet.specs.declared.encoding.Answer.{Answer}
+use Rattle.layout.proofs.Numerals.{number-bytes}
 use Rattle.sheet.specs.Bytes.{bigEndian, bytesOf, offsetBinary}
 use Rattle.sheet.specs.Sheet.{decoded, difference, goalOf}
 use Rattle.sheet.specs.Search.{requirementOf, verdicts, chosen}
@@ -54,21 +54,15 @@ answered sheet bytes h =
     let passed : NoneHolds (fieldCases sheet) = (fields .0, (fields .1 .0, (fields .1 .1 .0, (fields .1 .1 .1 .0, (fields .1 .1 .1 .1 .0, (fields .1 .1 .1 .1 .1 .0, tt)))))) in
     (record { admitted = admitted sheet passed; found = lt; enough = sufficient (v (chosen s)) (first-not-insufficient v lt) (ladder .1 .0) }, got .1)
 
--- bytes 2–3 of the answer
-two-bytes : (x : ℕ) → x < 65_536 → 256 * (x / 256 % 256) + x % 256 ≡ x
-two-bytes x lt =
-    let high : x / 256 < 256 = omega arith in
-    rw (mod-eq-of-lt high) (omega (arith, div-add-mod' x 256))
-
 -- the numbers in an answer's bytes, of fields that fit theirs
 module _ (a : Answer) where
   encoded-thickness : a .thickness .0 < 65_536 → bigEndian (encoded a) 2 2 ≡ a .thickness .0
   unfolding bigEndian encoded bytesOf
-  encoded-thickness lt = omega (arith, two-bytes (a .thickness .0) lt)
+  encoded-thickness lt = number-bytes 2 (a .thickness .0) lt
 
   encoded-bound : a .bound < 65_536 → offsetBinary (bigEndian (encoded a) 6 2) ≡ a .bound
   unfolding bigEndian encoded bytesOf
-  encoded-bound lt = omega (arith, two-bytes (offsetBinary (a .bound)) (omega arith))
+  encoded-bound lt = omega (arith, number-bytes 2 (offsetBinary (a .bound)) (omega arith))
 
 answer-thickness : (s : Sheet) → bigEndian (encoded (answerOf s (chosen s))) 2 2 ≡ thicknessAt (chosen s)
 unfolding answerOf

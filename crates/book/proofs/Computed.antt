@@ -25,8 +25,9 @@ worked-book =
       size = λ c. omega arith;
       new-book = (refl, refl);
       first = (refl, refl);
-      second = refl;
-      read = refl;
+      second = (refl, refl);
+      read = (refl, refl);
       beyond = refl;
       full = (refl, refl);
+      altered = refl;
     }

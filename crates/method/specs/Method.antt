@@ -1,0 +1,113 @@
+-- The figures of docs/METHOD.md, section by section.
+-- Assumes nothing.
+use Prim.Native.Nat.{ℕ, _+_, _*_}
+use mathlib.Core.Path.{_≡_}
+use mathlib.Core.List.{List, [], _∷_, _++_}
+use Rattle.fractions.specs.declared.Bounds.{Bounds}
+use Rattle.fractions.specs.Fraction.{_over_}
+use Rattle.fractions.specs.Rounding.{ceiling}
+use Rattle.quadrature.specs.Figures.{stepBounds, logBounds}
+use Rattle.quadrature.specs.Cuttings.{lowerSum}
+use Rattle.annex_tables.specs.Annex.{annexEntry}
+use Rattle.balance.specs.declared.goal.Goal.the-variants.{Loss, Surface}
+use Rattle.balance.specs.Provided.{filmBounds, provided}
+use Rattle.refusals.specs.Response.{refused, complete}
+use Rattle.sheet.specs.Bytes.{bytesOf, zeroDegrees, offsetBinary}
+use Rattle.sheet.specs.Sheet.{decoded, difference, goalOf}
+use Rattle.sheet.specs.Search.{requiredOf}
+use Rattle.sheet.specs.Limits.{lossLimit, surfaceLimit}
+use Rattle.sheet.specs.Answer.{surfaceBound}
+use Rattle.sheet.specs.Refusals.{responseTo}
+use Rattle.sheet.specs.Worked.{sheetF, sheetG}
+use Rattle.layout.specs.Layout.{standard, bytesFor, sheetAt, answerAt}
+use Rattle.layout.specs.Sizes.{capacity, count}
+use Rattle.book.specs.Refusals.{reading}
+
+abbrev bounds : ℕ → ℕ → Bounds
+bounds l u = record { lower = l; upper = u }
+
+-- the bytes of the cylinder, and of the same pipe, hotter
+abbrev pub cylinder : List ℕ
+cylinder = 1 ∷ 1 ∷ 0 ∷ 1 ∷ 1 ∷ 14 ∷ 0 ∷ 207 ∷ 0 ∷ 70 ∷ 1 ∷ 77 ∷ 8 ∷ 0 ∷ 29 ∷ 76 ∷ 11 ∷ 64 ∷ 6 ∷ 64 ∷ 8 ∷ 248 ∷ 0 ∷ 0 ∷ []
+
+abbrev pub hotter : List ℕ
+hotter = 3 ∷ 1 ∷ 0 ∷ 2 ∷ 1 ∷ 14 ∷ 5 ∷ 20 ∷ 0 ∷ 250 ∷ 1 ∷ 77 ∷ 8 ∷ 0 ∷ (bytesOf 8 0 ++ (1 ∷ 94 ∷ []))
+
+abbrev pub flat : List ℕ
+flat = sheetF 2 800
+
+abbrev pub book : List ℕ
+book = (0 ∷ 2 ∷ 0 ∷ 2 ∷ []) ++ cylinder ++ flat ++ (0 ∷ 1 ∷ 0 ∷ 20 ∷ 3 ∷ 0 ∷ 0 ∷ 77 ∷ []) ++ (0 ∷ 2 ∷ 0 ∷ 50 ∷ 0 ∷ 0 ∷ 1 ∷ 44 ∷ [])
+
+pub record Cylinder : Type 0 where
+  pub signed : offsetBinary 65_436 ≡ 32_668
+  pub temperatures : (decoded cylinder .temperature ≡ 32_975) × (difference (decoded cylinder) ≡ 137)
+  -- the need, and the squares that pin it down
+  pub product : 14_402_025_000 * (7_500 * 333 * 2_880 * 137) ≡ 14_191_951_302_540_000_000_000
+  pub squares : (62_154_864 * 62_154_864 * 3_673_600 ≡ 14_191_951_143_838_570_905_600) × (62_154_865 * 62_154_865 * 3_673_600 ≡ 14_191_951_600_502_791_360_000)
+  pub need : requiredOf (decoded cylinder) (goalOf (decoded cylinder)) ≡ bounds 62_154_864 62_154_865
+  -- the logs
+  pub annex-27 : annexEntry 17 ≡ bounds 993_248_177_892 993_258_963_232
+  pub annex-47 : annexEntry 37 ≡ bounds 1_547_558_530_565 1_547_570_464_918
+  pub annex-67 : annexEntry 57 ≡ bounds 1_902_103_452_353 1_902_115_674_308
+  pub to-470 : logBounds 270 470 ≡ bounds 554_310_352_673 554_311_501_686
+  pub to-670 : logBounds 270 670 ≡ bounds 908_855_274_461 908_856_711_076
+  -- the rungs
+  pub film : filmBounds (decoded cylinder .line) ≡ bounds 3_251_953 3_251_954
+  pub at-0 : provided (decoded cylinder .line) 0 ≡ bounds 3_251_953 3_251_954
+  pub at-10 : provided (decoded cylinder .line) 10 ≡ bounds 29_304_539 29_304_595
+  pub at-20 : provided (decoded cylinder .line) 20 ≡ bounds 64_145_256 64_145_354
+  -- the checks, the bound and the answer
+  pub no-limit : lossLimit 1 (zeroDegrees + 207) ≡ 0
+  pub surface-limit : surfaceLimit (zeroDegrees + 70) ≡ zeroDegrees + 500
+  pub bound : (ceiling (912_420_000_000 over 131_369_484_288) ≡ 7) × (surfaceBound (decoded cylinder) (bounds 64_145_256 64_145_354) ≡ zeroDegrees + 77)
+  pub answer : responseTo cylinder ≡ complete (0 ∷ 1 ∷ 0 ∷ 20 ∷ 3 ∷ 0 ∷ 0 ∷ 77 ∷ [])
+
+pub record Hotter : Type 0 where
+  pub need : requiredOf (decoded hotter) (goalOf (decoded hotter)) ≡ bounds 34_145_507 34_145_508
+  pub loss-limit : lossLimit 1 (zeroDegrees + 1_300) ≡ 930
+  pub loss-need : requiredOf (decoded hotter) (Loss 930) ≡ bounds 75_193_548 75_193_549
+  pub surface-need : requiredOf (decoded hotter) (Surface 250) ≡ bounds 13_658_203 13_658_204
+  pub bound : surfaceBound (decoded hotter) (bounds 64_145_256 64_145_354) ≡ zeroDegrees + 304
+  pub answer : responseTo hotter ≡ complete (0 ∷ 1 ∷ 0 ∷ 20 ∷ 1 ∷ 0 ∷ 1 ∷ 48 ∷ [])
+
+pub record Between : Type 0 where
+  pub step-100 : stepBounds 100 ≡ bounds 9_950_248_756 9_950_495_050
+  pub step-270 : stepBounds 270 ≡ bounds 3_696_857_670 3_696_870_303
+  pub step-271 : stepBounds 271 ≡ bounds 3_683_241_252 3_683_253_745
+  pub step-272 : stepBounds 272 ≡ bounds 3_669_724_770 3_669_737_126
+  pub step-670 : stepBounds 670 ≡ bounds 1_491_424_310 1_491_425_140
+  pub step-671 : stepBounds 671 ≡ bounds 1_489_203_276 1_489_204_102
+  pub step-672 : stepBounds 672 ≡ bounds 1_486_988_847 1_486_989_670
+  pub to-273 : logBounds 100 273 ≡ bounds 1_004_298_001_584 1_004_308_824_406
+  pub to-673 : logBounds 100 673 ≡ bounds 1_906_571_068_786 1_906_583_293_220
+  pub log : logBounds 273 673 ≡ bounds 902_273_067_202 902_274_468_814
+
+pub record FlatWall : Type 0 where
+  pub need : requiredOf (decoded flat) (goalOf (decoded flat)) ≡ bounds 55_000_000 55_000_000
+  pub at-40 : provided (decoded flat .line) 40 ≡ bounds 45_000_000 45_000_000
+  pub at-50 : provided (decoded flat .line) 50 ≡ bounds 55_000_000 55_000_000
+  pub loss-need : requiredOf (decoded flat) (Loss 930) ≡ bounds 47_311_827 47_311_828
+  pub surface-need : requiredOf (decoded flat) (Surface 300) ≡ bounds 18_333_333 18_333_334
+  pub bound : surfaceBound (decoded flat) (bounds 55_000_000 55_000_000) ≡ zeroDegrees + 300
+  pub answer : responseTo flat ≡ complete (0 ∷ 2 ∷ 0 ∷ 50 ∷ 0 ∷ 0 ∷ 1 ∷ 44 ∷ [])
+  -- the open rung of sheet G
+  pub open-need : requiredOf (decoded sheetG) (goalOf (decoded sheetG)) ≡ bounds 3_439_380 3_439_381
+  pub open-have : provided (decoded sheetG .line) 0 ≡ bounds 3_439_380 3_439_381
+  pub at-10 : provided (decoded sheetG .line) 10 .lower ≡ 13_439_380
+  pub refusal : responseTo sheetG ≡ refused 18
+  -- the exact equation: strip 100, cut in 2
+  pub strip : lowerSum 2 100 101 ≡ 1_608 over 161_603
+
+pub record Entry : Type 0 where
+  pub size : bytesFor standard 2 ≡ 68
+  pub places : (sheetAt standard 1 ≡ 28) × (answerAt standard 2 0 ≡ 52) × (answerAt standard 2 1 ≡ 60)
+  pub sizes : (capacity standard book ≡ 2) × (count standard book ≡ 2)
+  pub read : reading standard book 1 ≡ complete (flat ++ (0 ∷ 2 ∷ 0 ∷ 50 ∷ 0 ∷ 0 ∷ 1 ∷ 44 ∷ []))
+
+pub record Method : Type 0 where
+  pub the-cylinder : Cylinder
+  pub the-same-hotter : Hotter
+  pub between-millimetres : Between
+  pub the-flat-wall : FlatWall
+  pub an-entry : Entry
