@@ -28,6 +28,7 @@ unprinted = row 0 0 0
 abbrev pub column : ℕ → Row → ℕ
 column service r = cond (eqb service 1) (r .yearRound) (r .seasonal)
 
+-- t and ta are counted from −3,276.8 °C here too (`zeroDegrees`).
 -- "The row is the highest one not above t. Below 50.0, or seasonal from 450.0, none is printed." The rows rise, so the search ends
 -- at the first that is above t.
 unfoldable pub highestNotAbove : ℕ → Row → List Row → Row
