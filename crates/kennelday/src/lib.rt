@@ -55,6 +55,7 @@ pub extern "C" fn kd_read(book: &[u8], entry: u64, sheet: &mut [u8; 24], answer:
     number_or_0(read(book, entry, sheet, answer))
 }
 
+// The number of a refusal, or 0.
 fn number_or_0(completion: Completion) -> u8
     ensures { λ r. ⌜ ((bytes : List ℕ) → r ≡ code (responseWith completion bytes)) ⌝ }
 {

@@ -1,4 +1,4 @@
--- What is sent back because of any book. 01, "Sent back because of the book".
+-- The refusals that filing and reading share. 01, "Sent back because of the book".
 -- Assumes nothing.
 use Prim.Native.Nat.{ℕ}
 use mathlib.Core.Bool.{Bool, not, _||_}
