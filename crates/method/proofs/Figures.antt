@@ -50,9 +50,12 @@ the-cylinder =
       to-470 = refl;
       to-670 = refl;
       film = refl;
+      insulation-10 = refl;
+      insulation-20 = refl;
       at-0 = refl;
       at-10 = refl;
       at-20 = refl;
+      found = rw (low, high);
       no-limit = refl;
       surface-limit = refl;
       bound = (refl, refl);
@@ -84,6 +87,10 @@ unfolding summed cutSum lowerStep upperStep least insulation film insulationBoun
 the-flat-wall =
     record {
       need = refl;
+      at-0 = refl;
+      at-10 = refl;
+      at-20 = refl;
+      at-30 = refl;
       at-40 = refl;
       at-50 = refl;
       loss-need = refl;
@@ -92,7 +99,7 @@ the-flat-wall =
       answer = refl;
       open-need = refl;
       open-have = refl;
-      at-10 = refl;
+      next-have = refl;
       refusal = refl;
       strip = refl;
     }

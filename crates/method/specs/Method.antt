@@ -10,11 +10,12 @@ use Rattle.quadrature.specs.Figures.{stepBounds, logBounds}
 use Rattle.quadrature.specs.Cuttings.{lowerSum}
 use Rattle.annex_tables.specs.Annex.{annexEntry}
 use Rattle.balance.specs.declared.goal.Goal.the-variants.{Loss, Surface}
-use Rattle.balance.specs.Provided.{filmBounds, provided}
+use Rattle.balance.specs.declared.line.Shape.the-variants.{Cylinder as Pipe}
+use Rattle.balance.specs.Provided.{filmBounds, insulationBounds, provided}
 use Rattle.refusals.specs.Response.{refused, complete}
 use Rattle.sheet.specs.Bytes.{bytesOf, zeroDegrees, offsetBinary}
 use Rattle.sheet.specs.Sheet.{decoded, difference, goalOf}
-use Rattle.sheet.specs.Search.{requiredOf}
+use Rattle.sheet.specs.Search.{requiredOf, chosen}
 use Rattle.sheet.specs.Limits.{lossLimit, surfaceLimit}
 use Rattle.sheet.specs.Answer.{surfaceBound}
 use Rattle.sheet.specs.Refusals.{responseTo}
@@ -54,9 +55,12 @@ pub record Cylinder : Type 0 where
   pub to-670 : logBounds 270 670 ≡ bounds 908_855_274_461 908_856_711_076
   -- the rungs
   pub film : filmBounds (decoded cylinder .line) ≡ bounds 3_251_953 3_251_954
+  pub insulation-10 : insulationBounds Pipe 270 10 ≡ bounds 26_052_586 26_052_641
+  pub insulation-20 : insulationBounds Pipe 270 20 ≡ bounds 60_893_303 60_893_400
   pub at-0 : provided (decoded cylinder .line) 0 ≡ bounds 3_251_953 3_251_954
   pub at-10 : provided (decoded cylinder .line) 10 ≡ bounds 29_304_539 29_304_595
   pub at-20 : provided (decoded cylinder .line) 20 ≡ bounds 64_145_256 64_145_354
+  pub found : chosen (decoded cylinder) ≡ 2
   -- the checks, the bound and the answer
   pub no-limit : lossLimit 1 (zeroDegrees + 207) ≡ 0
   pub surface-limit : surfaceLimit (zeroDegrees + 70) ≡ zeroDegrees + 500
@@ -85,6 +89,10 @@ pub record Between : Type 0 where
 
 pub record FlatWall : Type 0 where
   pub need : requiredOf (decoded flat) (goalOf (decoded flat)) ≡ bounds 55_000_000 55_000_000
+  pub at-0 : provided (decoded flat .line) 0 ≡ bounds 5_000_000 5_000_000
+  pub at-10 : provided (decoded flat .line) 10 ≡ bounds 15_000_000 15_000_000
+  pub at-20 : provided (decoded flat .line) 20 ≡ bounds 25_000_000 25_000_000
+  pub at-30 : provided (decoded flat .line) 30 ≡ bounds 35_000_000 35_000_000
   pub at-40 : provided (decoded flat .line) 40 ≡ bounds 45_000_000 45_000_000
   pub at-50 : provided (decoded flat .line) 50 ≡ bounds 55_000_000 55_000_000
   pub loss-need : requiredOf (decoded flat) (Loss 930) ≡ bounds 47_311_827 47_311_828
@@ -94,7 +102,7 @@ pub record FlatWall : Type 0 where
   -- the open rung of sheet G
   pub open-need : requiredOf (decoded sheetG) (goalOf (decoded sheetG)) ≡ bounds 3_439_380 3_439_381
   pub open-have : provided (decoded sheetG .line) 0 ≡ bounds 3_439_380 3_439_381
-  pub at-10 : provided (decoded sheetG .line) 10 .lower ≡ 13_439_380
+  pub next-have : provided (decoded sheetG .line) 10 .lower ≡ 13_439_380
   pub refusal : responseTo sheetG ≡ refused 18
   -- the exact equation: strip 100, cut in 2
   pub strip : lowerSum 2 100 101 ≡ 1_608 over 161_603
