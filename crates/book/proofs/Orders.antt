@@ -6,7 +6,8 @@ use Prim.Native.Nat.{ℕ}
 use Rattle.sheet.specs.Refusals.{cases}
 use Rattle.layout.specs.declared.places.Layout.{Layout}
 use Rattle.book.specs.Refusals.{makingCases, filingCases, readingCases}
-use Rattle.book.specs.Demands.{numbers, sheetOrder}
+use Rattle.refusals.specs.Cases.{numbers}
+use Rattle.book.specs.Demands.{sheetOrder}
 
 pub sheet-order : (sheet : List ℕ) → numbers (cases sheet) ≡ sheetOrder
 unfolding numbers

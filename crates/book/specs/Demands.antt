@@ -7,7 +7,7 @@ use mathlib.Core.List.{List, [], _∷_, _++_}
 use lib.ListN.{length, getD}
 use Rattle.quadrature.specs.Ladder.{rungs, thicknessAt}
 use Rattle.quadrature.specs.Cuttings.{lowerSum, upperSum}
-use Rattle.refusals.specs.Cases.{Case, NoneHolds}
+use Rattle.refusals.specs.Cases.{numbers, NoneHolds}
 use Rattle.refusals.specs.Response.{refused, complete, FirstOrComplete}
 use Rattle.balance.specs.declared.verdict.Verdict.{Verdict}
 use Rattle.balance.specs.declared.verdict.Verdict.the-variants.{Sufficient, Insufficient, Undecided}
@@ -25,11 +25,6 @@ use Rattle.layout.specs.Layout.{standard}
 use Rattle.layout.specs.Sizes.{count}
 use Rattle.book.specs.Book.{storedSheet, storedAnswer}
 use Rattle.book.specs.Refusals.{makingCases, filingCases, readingCases, making, made, filing, filed, reading}
-
--- the numbers of a list of cases
-unfoldable pub numbers : List Case → List ℕ
-numbers [] = []
-numbers (c ∷ cs) = c .number ∷ numbers cs
 
 -- "Tests run in this order." (01, "Sent back because of the sheet")
 abbrev pub sheetOrder : List ℕ

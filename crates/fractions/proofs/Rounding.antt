@@ -5,7 +5,7 @@ use Prim.Native.Nat.{ℕ, _+_, _-_, _*_, _/_, _%_, _≤_, _<_}
 use native.Mathlib.Nat.{div-mul-le-self, lt-div-mul-add, div-add-mod', mod-lt, div-eq-of-lt-le, pos-of-ne-zero, le-mul-of-pos-right, mul-le-mul-right, mul-lt-mul-of-pos-right}
 use native.Mathlib.Omega.{arith}
 use Rattle.fractions.specs.Fraction.{Fraction, _over_, _≼_}
-use Rattle.fractions.specs.Rounding.{floor, ceiling}
+use Rattle.fractions.specs.Rounding.{floor, ceiling, nearest}
 
 pub floor-below : (p : Fraction) → floor p * p .den ≤ p .num
 floor-below p = div-mul-le-self (p .num) (p .den)
@@ -54,3 +54,21 @@ module _ (n d : ℕ) (pos : 0 < d) where
 
   pub next-fits : ¬ (n % d ≡ 0) → n / d + 1 ≤ n
   next-fits some = omega (arith, pos-of-ne-zero some, le-mul-of-pos-right (n / d) pos, div-add-mod' n d)
+
+-- "a half going up"
+pub half-up : (n : ℕ) → nearest ((2 * n + 1) over 2) ≡ n + 1
+half-up n = omega arith
+
+-- The nearest whole number is a fraction rounded down, half of one being added first.
+abbrev half-more : Fraction → Fraction
+half-more p = (2 * p .num + p .den) over (2 * p .den)
+
+-- s − 1/2 is not above the fraction, and s + 1/2 is above it
+pub nearest-below : (p : Fraction) → nearest p * (2 * p .den) ≤ 2 * p .num + p .den
+nearest-below p = floor-below (half-more p)
+
+pub below-half : (p : Fraction) → 0 < p .den → 2 * p .num + p .den < (nearest p + 1) * (2 * p .den)
+below-half p pos = below-next (half-more p) (omega arith)
+
+pub nearest-mono : (p q : Fraction) → 0 < p .den → 0 < q .den → p ≼ q → nearest p ≤ nearest q
+nearest-mono p q hp hq le = floor-mono (half-more p) (half-more q) (omega arith) (omega arith) (omega (arith, le))

@@ -1,6 +1,6 @@
--- A fraction rounded down and rounded up, as 01, "Ladder and figures", rounds its figures and quotients.
+-- A fraction rounded down and rounded up, as 01, "Ladder and figures", rounds its figures and quotients, and to the nearest.
 -- Assumes nothing.
-use Prim.Native.Nat.{ℕ, _+_, _-_, _/_}
+use Prim.Native.Nat.{ℕ, _+_, _-_, _*_, _/_}
 use Rattle.fractions.specs.declared.Bounds.{Bounds}
 use Rattle.fractions.specs.Fraction.{Fraction}
 
@@ -14,3 +14,7 @@ ceiling p = (p .num + (p .den - 1)) / p .den
 
 abbrev pub rounded : Fraction → Bounds
 rounded p = record { lower = floor p; upper = ceiling p }
+
+-- the nearest whole number, "a half going up" (02, N1)
+abbrev pub nearest : Fraction → ℕ
+nearest p = (2 * p .num + p .den) / (2 * p .den)

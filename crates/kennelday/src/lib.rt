@@ -9,7 +9,11 @@ ghost use Prim.Native.Nat.{ℕ};
 ghost use mathlib.Core.List.{List};
 ghost use Rattle.refusals.specs.Completion.{responseWith};
 ghost use Rattle.book.specs.Refusals.{making, made, filing, filed, reading};
+ghost use Rattle.amortization.specs.Share.{exactShare};
+ghost use Rattle.amortization.specs.Refusals.{shareResponse};
 ghost use Rattle.kennelday.specs.Code.{code, handed};
+use amortization::YearlyShare;
+use amortization::share as yearly_share;
 use book::new_book;
 use filing::file;
 use outcome::Outcome;
@@ -53,6 +57,21 @@ pub extern "C" fn kd_read(book: &[u8], entry: u64, sheet: &mut [u8; 24], answer:
     ensures { λ _. ⌜ now (answer .exit) ≡ after (reading standard (now (book .entry)) entry) (storedAnswer standard (now (book .entry)) entry) (now (answer .entry)) ⌝ }
 {
     number_or_0(read(book, entry, sheet, answer))
+}
+
+// The yearly share of an investment.
+#[no_mangle]
+pub extern "C" fn kd_share(rate: u64, years: u64, share: &mut u16) -> u8
+    ensures { λ r. ⌜ r ≡ code (shareResponse rate years) ⌝ }
+    ensures { λ _. ⌜ now (share .exit) ≡ after (shareResponse rate years) (exactShare rate years) (now (share .entry)) ⌝ }
+{
+    match yearly_share(rate, years) {
+        YearlyShare::Refused(why) => why.number(),
+        YearlyShare::Given(given) => {
+            *share = given;
+            0
+        }
+    }
 }
 
 // The number of a refusal, or 0.

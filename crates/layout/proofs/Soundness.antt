@@ -9,7 +9,7 @@ use lib.Dec.{ltb, eqb}
 use lib.ListN.{length}
 use borrow.Author.Tests.{ltb-false, le-ltb, eqb-true, eq-eqb, not-false}
 use Rattle.refusals.specs.Cases.{NoneHolds}
-use Rattle.sheet.proofs.Inside.{or-false-both}
+use Rattle.refusals.proofs.Range.{or-false-both}
 use Rattle.layout.specs.declared.places.Layout.{Layout}
 use Rattle.layout.specs.Layout.{header, answerAt, bytesFor}
 use Rattle.layout.specs.Sizes.{capacity, count}

@@ -14,6 +14,11 @@ pub record Case : Type 0 where
 abbrev pub case : ℕ → Bool → Case
 case n b = record { number = n; holds = b }
 
+-- the numbers of a list of cases
+unfoldable pub numbers : List Case → List ℕ
+numbers [] = []
+numbers (c ∷ cs) = c .number ∷ numbers cs
+
 -- no case of a list holds
 unfoldable pub NoneHolds : List Case → Type 0
 NoneHolds [] = Unit {0}

@@ -1,4 +1,5 @@
 pub mod Numbers
+pub mod Range
 pub mod Cases
 pub mod Response
 pub mod Completion

@@ -1,8 +1,8 @@
--- The numbers of the refusals. 01, "Sent back because of the sheet", "Sent back because of the book".
+-- The numbers of the refusals. 01, "Sent back because of the sheet", "Sent back because of the book"; 02.
 -- Assumes nothing.
 use Prim.Native.Nat.{ℕ}
 use Rattle.refusals.specs.declared.Refusal.{Refusal}
-use Rattle.refusals.specs.declared.Refusal.the-variants.{SheetLength, UnknownCode, OutOfRange, NotZero, NotWarmer, AimOutOfReach, NoneSufficient, TooClose, BookSize, CountAboveCapacity, NoSuchEntry, BookFull, EntryUnsound}
+use Rattle.refusals.specs.declared.Refusal.the-variants.{SheetLength, UnknownCode, OutOfRange, NotZero, NotWarmer, AimOutOfReach, NoneSufficient, TooClose, BookSize, CountAboveCapacity, NoSuchEntry, BookFull, EntryUnsound, RateOrTerm, ShareUndecided}
 
 abbrev pub numberOf : Refusal → ℕ
 numberOf SheetLength = 11
@@ -18,3 +18,5 @@ numberOf CountAboveCapacity = 32
 numberOf NoSuchEntry = 33
 numberOf BookFull = 34
 numberOf EntryUnsound = 35
+numberOf RateOrTerm = 41
+numberOf ShareUndecided = 42

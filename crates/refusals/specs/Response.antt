@@ -17,8 +17,8 @@ unfoldable pub respond : List Case → List ℕ → Response
 respond [] bytes = complete bytes
 respond (c ∷ cs) bytes = elim (c .holds) [ true ↦ refused (c .number) | false ↦ respond cs bytes ]
 
--- What a call leaves in lent bytes: `new` where it is complete. 01, "Sent back because of the book": "No refusal changes a byte."
-abbrev pub after : Response → List ℕ → List ℕ → List ℕ
+-- What a call leaves where `old` was lent: `new` where it is complete. 01, "Sent back because of the book": "No refusal changes a byte."
+abbrev pub after : {A : Type 0} → Response → A → A → A
 after (refused n) new old = old
 after (complete bytes) new old = new
 

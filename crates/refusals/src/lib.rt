@@ -1,6 +1,7 @@
 // Why a call sends back what it was given.
 ghost use mathlib.Core.Path.{_≡_};
 ghost use Rattle.refusals.specs.Numbers.{numberOf};
+ghost use Rattle.refusals.specs.Range.{outside as Range·outside};
 
 pub enum Refusal {
     // Of a sheet: its length, an unknown goal or service, a field outside its range, a field that must be zero.
@@ -21,6 +22,9 @@ pub enum Refusal {
     NoSuchEntry,
     BookFull,
     EntryUnsound,
+    // Of a yearly share: a rate or a term outside its range, a share that the figures round to two numbers.
+    RateOrTerm,
+    ShareUndecided,
 }
 
 // What a call that leaves its bytes in lent arrays says.
@@ -47,6 +51,15 @@ impl Refusal {
             Refusal::NoSuchEntry => 33,
             Refusal::BookFull => 34,
             Refusal::EntryUnsound => 35,
+            Refusal::RateOrTerm => 41,
+            Refusal::ShareUndecided => 42,
         }
     }
+}
+
+// Is a number outside its range?
+pub fn outside(value: u64, least: u64, most: u64) -> bool
+    ensures { λ r. ⌜ r ≡ Range·outside value least most ⌝ }
+{
+    (value < least) | (most < value)
 }

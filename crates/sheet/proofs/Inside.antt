@@ -1,11 +1,11 @@
 -- Fields inside their ranges.
 -- Assumes nothing.
 use mathlib.Core.Path.{_≡_, refl}
-use mathlib.Core.Bool.{Bool, true, false, _||_, _&&_, cond, true≢false}
+use mathlib.Core.Bool.{Bool, true, false, _&&_, cond}
 use mathlib.Core.List.{List, [], _∷_}
 use Prim.Native.Nat.{_-_, _≤_}
-use lib.Dec.{ltb}
-use borrow.Author.Tests.{ltb-false, ne-eqb}
+use borrow.Author.Tests.{ne-eqb}
+use Rattle.refusals.proofs.Range.{or-false-both, inside as within}
 use Rattle.balance.specs.declared.goal.Goal.the-variants.{Surface}
 use Rattle.sheet.specs.declared.fields.Sheet.{Sheet}
 use Rattle.sheet.specs.Sheet.{surfaceAim, goalOf}
@@ -17,16 +17,12 @@ pub record Inside (f : Field) (fs : List Field) : Type 0 where
   pub most : f .value ≤ f .most
   pub rest : anyOutside fs ≡ false
 
-pub or-false-both : (a b : Bool) → a || b ≡ false → (a ≡ false) × (b ≡ false)
-or-false-both true b e = absurd (true≢false e)
-or-false-both false b e = (refl, e)
-
 pub inside : (f : Field) (fs : List Field) → anyOutside (f ∷ fs) ≡ false → Inside f fs
 unfolding anyOutside
 inside f fs e =
     let parts = or-false-both (outside f) (anyOutside fs) e in
-    let ends = or-false-both (ltb (f .value) (f .least)) (ltb (f .most) (f .value)) (parts .0) in
-    record { least = ltb-false _ _ (ends .0); most = ltb-false _ _ (ends .1); rest = parts .1 }
+    let ends = within (f .value) (f .least) (f .most) (parts .0) in
+    record { least = ends .0; most = ends .1; rest = parts .1 }
 
 -- the fields that only goal 1 uses
 pub if-goal : (b : Bool) (fs : List Field) → b && anyOutside fs ≡ anyOutside (cond b fs [])

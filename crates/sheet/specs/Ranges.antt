@@ -3,7 +3,8 @@
 use Prim.Native.Nat.{ℕ, _+_, _-_}
 use mathlib.Core.Bool.{Bool, false, _||_, cond}
 use mathlib.Core.List.{List, [], _∷_, map}
-use lib.Dec.{ltb, eqb}
+use lib.Dec.{eqb}
+use Rattle.refusals.specs.Range.{outside as Range·outside}
 use Rattle.sheet.specs.declared.fields.Sheet.{Sheet}
 use Rattle.sheet.specs.Bytes.{zeroDegrees}
 
@@ -18,7 +19,7 @@ abbrev pub field : ℕ → ℕ → ℕ → ℕ → Field
 field o x l m = record { offset = o; value = x; least = l; most = m }
 
 abbrev pub outside : Field → Bool
-outside f = ltb (f .value) (f .least) || ltb (f .most) (f .value)
+outside f = Range·outside (f .value) (f .least) (f .most)
 
 unfoldable pub anyOutside : List Field → Bool
 anyOutside [] = false

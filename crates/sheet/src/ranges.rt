@@ -1,13 +1,12 @@
 // What is wrong with a sheet, before a thickness is sought.
 ghost use mathlib.Core.Path.{_≡_};
-ghost use Prim.Native.Nat.{ℕ};
 ghost use Rattle.sheet.specs.Sheet.{surfaceAim, goalOf};
-ghost use Rattle.sheet.specs.Ranges.{field, anyOutside, codes, ranges, economyFields, mustBeZero};
-ghost use Rattle.sheet.specs.Ranges.{outside as Ranges·outside};
+ghost use Rattle.sheet.specs.Ranges.{anyOutside, codes, ranges, economyFields, mustBeZero};
 ghost use Rattle.sheet.specs.Refusals.{aimRefused};
 use crate::Sheet;
 use crate::fields::ZERO;
 use crate::fields::offset_binary;
+use refusals::outside;
 
 impl Sheet {
     // Is the goal or the service unknown?
@@ -71,10 +70,4 @@ impl Sheet {
         let aim = self.surface_aim();
         !((self.ambient < aim) & (aim < self.temperature))
     }
-}
-
-fn outside(value: u64, least: u64, most: u64) -> bool
-    ensures { λ r. ⌜ ((offset : ℕ) → r ≡ Ranges·outside (field offset value least most)) ⌝ }
-{
-    (value < least) | (most < value)
 }

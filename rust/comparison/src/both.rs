@@ -56,3 +56,17 @@ pub fn read(book: &[u8], entry: u64) -> Result<Entry, Refusal> {
     assert_eq!(lent, expected, "entry {entry} of {book:?}");
     plain
 }
+
+/// The call is made over two patterns: a refused one must leave either.
+pub fn share(rate: u64, years: u64) -> Result<u16, Refusal> {
+    let plain = plain::share(rate, years);
+    for pattern in [PATTERN, !PATTERN] {
+        let untouched = u16::from_ne_bytes([pattern; 2]);
+        let mut lent = untouched;
+        let proved = kennelday::share(rate, years, &mut lent).map_err(number);
+        assert_eq!(proved.err(), plain.err(), "rate {rate}, {years} years");
+        let expected = plain.unwrap_or(untouched);
+        assert_eq!(lent, expected, "share of rate {rate}, {years} years");
+    }
+    plain
+}

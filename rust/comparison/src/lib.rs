@@ -1,7 +1,8 @@
-//! Two further implementations of the paper's rules, and the sheets on which
-//! the proved library is compared with them.
+//! Further implementations of the paper's rules, and the sheets on which the
+//! proved library is compared with them.
 
 pub mod both;
+pub mod exact;
 pub mod float;
 pub mod plain;
 pub mod sheets;

@@ -1,7 +1,7 @@
 //! The rules of the paper worked out the plain way: whole numbers, loops over
 //! the definitions and no tables of logarithms.
 
-use std::ops::Range;
+use std::ops::{Range, RangeInclusive};
 
 /// The number of a refusal.
 pub type Refusal = u8;
@@ -311,7 +311,8 @@ impl Logarithm {
     }
 }
 
-/// A figure rounded down and the same figure rounded up, in nanometres.
+/// A figure rounded down and the same figure rounded up: have and need in
+/// nanometres, growth in units of 10⁻⁹.
 #[derive(Clone, Copy, Debug, PartialEq, Eq)]
 pub struct Bracket {
     pub lower: u128,
@@ -699,4 +700,58 @@ pub fn read(book: &[u8], entry: u64) -> Result<Entry, Refusal> {
         }
         _ => Err(35),
     }
+}
+
+// The yearly share from interest and years.
+
+/// "The rate i counts 0.0001 and runs from 1 to 3,000."
+pub const RATES: RangeInclusive<u64> = 1..=3_000;
+
+/// "n runs from 2 to 30, since one year would give more than 1."
+pub const TERMS: RangeInclusive<u64> = 2..=30;
+
+/// A growth of one.
+const BILLION: u128 = 1_000_000_000;
+
+/// "Growth is compounded year by year from 10⁹, each year multiplied by
+/// (10,000 + i) / 10,000, once rounded down and once up."
+pub fn growth(rate: u64, years: u64) -> Bracket {
+    let factor = 10_000 + u128::from(rate);
+    let (mut lower, mut upper) = (BILLION, BILLION);
+    for _ in 0..years {
+        lower = lower * factor / 10_000;
+        upper = (upper * factor).div_ceil(10_000);
+    }
+    Bracket { lower, upper }
+}
+
+/// S, "the rate times the growth over n years, divided by the growth less one",
+/// "to the nearest 0.0001, a half going up".
+fn rounded_share(rate: u64, growth: u128) -> u128 {
+    let divisor = growth - BILLION;
+    (2 * u128::from(rate) * growth + divisor) / (2 * divisor)
+}
+
+/// "S falls as growth rises, so the two growth figures enclose it." The upper
+/// end is that of the lower growth.
+pub fn share_ends(rate: u64, years: u64) -> (u128, u128) {
+    let growth = growth(rate, years);
+    let lower = rounded_share(rate, growth.upper);
+    let upper = rounded_share(rate, growth.lower);
+    (lower, upper)
+}
+
+/// "S is given to the nearest 0.0001, a half going up, when both ends round
+/// alike."
+pub fn share(rate: u64, years: u64) -> Result<u16, Refusal> {
+    // 41: a rate or term outside its range.
+    if !RATES.contains(&rate) || !TERMS.contains(&years) {
+        return Err(41);
+    }
+    // 42: the two ends round differently.
+    let (lower, upper) = share_ends(rate, years);
+    if lower != upper {
+        return Err(42);
+    }
+    Ok(u16::try_from(lower).expect("at most 10,000"))
 }

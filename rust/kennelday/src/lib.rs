@@ -32,6 +32,11 @@
 //! // Nothing else is filed.
 //! let refused = kennelday::read(&book, 1, &mut stored_sheet, &mut stored_answer);
 //! assert_eq!(refused.unwrap_err().number(), 33);
+//!
+//! // Ten per cent over six years: a yearly share of 0.2296.
+//! let mut share = 0;
+//! kennelday::share(1_000, 6, &mut share)?;
+//! assert_eq!(share, 2_296);
 //! # Ok::<(), kennelday::Refusal>(())
 //! ```
 
@@ -47,9 +52,11 @@ extern "C" {
     ) -> u8;
     fn kd_read(book: *const u8, book_len: usize, entry: u64, sheet: *mut u8, answer: *mut u8)
         -> u8;
+    fn kd_share(rate: u64, years: u64, share: *mut u16) -> u8;
 }
 
-/// A sheet or a book sent back, with the number of the first case that holds.
+/// A sheet, a book or a rate and term sent back, with the number of the first
+/// case that holds.
 #[derive(Debug, Clone, Copy, PartialEq, Eq)]
 pub struct Refusal(u8);
 
@@ -118,4 +125,13 @@ pub fn read(
             answer.as_mut_ptr(),
         )
     })
+}
+
+/// Works out the yearly share of a rate, 1 to 3,000, over 2 to 30 years. Both
+/// the rate and the share count 0.0001.
+///
+/// A refused call leaves `share` as it was.
+pub fn share(rate: u64, years: u64, share: &mut u16) -> Result<(), Refusal> {
+    // SAFETY: the pointer comes from a live borrow.
+    outcome(unsafe { kd_share(rate, years, share) })
 }

@@ -1,8 +1,9 @@
 //! Prints how fast the proved call, the plain one and the floating-point one
-//! are, where the floating-point one differs, and what a book call costs.
+//! are, where the floating-point one differs, and what a book call and a
+//! yearly share cost.
 
 use comparison::float;
-use comparison::plain;
+use comparison::plain::{self, RATES, TERMS};
 use comparison::sheets::{Batch, Family, Sheets};
 use std::hint::black_box;
 use std::time::Instant;
@@ -257,6 +258,36 @@ fn print_books(set: &Batch) {
     }
 }
 
+// Yearly shares.
+
+fn proved_share(rate: u64, years: u64) -> Result<u16, u8> {
+    let mut share = 0;
+    match kennelday::share(rate, years, &mut share) {
+        Ok(()) => Ok(share),
+        Err(refusal) => Err(refusal.number()),
+    }
+}
+
+/// One call for each rate and term.
+fn over_terms<T>(call: impl Fn(u64, u64) -> T) {
+    for rate in RATES {
+        for years in TERMS {
+            black_box(call(black_box(rate), black_box(years)));
+        }
+    }
+}
+
+fn print_shares() {
+    let count = RATES.count() * TERMS.count();
+    let mut proved = || over_terms(proved_share);
+    let mut plain = || over_terms(plain::share);
+    let [proved, plain] = best_seconds([&mut proved, &mut plain])
+        .map(|seconds| format!("{:.1}", 1e9 * seconds / count as f64));
+    line("rates and terms", count);
+    line("proved, ns", proved);
+    line("plain exact, ns", plain);
+}
+
 // Stack.
 
 #[cfg(not(target_arch = "x86_64"))]
@@ -307,6 +338,8 @@ fn main() {
     print_differences(Family::Near, 100_000);
     heading("Books, answered cylinders filed as the last entry");
     print_books(&cylinders[..1_000].to_vec());
+    heading("Yearly shares, every rate and term");
+    print_shares();
     heading("Stack, wrapper included");
     print_stack();
 }

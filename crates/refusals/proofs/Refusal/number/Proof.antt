@@ -43,6 +43,12 @@ enum-told-12 c = search needs
 enum-told-13 : tie.Need-enum-told-13
 enum-told-13 c = search needs
 
+enum-told-14 : tie.Need-enum-told-14
+enum-told-14 c = search needs
+
+enum-told-15 : tie.Need-enum-told-15
+enum-told-15 c = search needs
+
 returns : tie.Need-returns
 returns c = rw (c .enum-told .given .1)
 
@@ -82,7 +88,13 @@ returns-12 c = rw (c .enum-told12 .given .1)
 returns-13 : tie.Need-returns-13
 returns-13 c = rw (c .enum-told13 .given .1)
 
+returns-14 : tie.Need-returns-14
+returns-14 c = rw (c .enum-told14 .given .1)
+
+returns-15 : tie.Need-returns-15
+returns-15 c = rw (c .enum-told15 .given .1)
+
 pub number-spec : {M : Type 1} → statement M
 number-spec =
     tie.close
-    (tie.spec enum-told enum-told-2 enum-told-3 enum-told-4 enum-told-5 enum-told-6 enum-told-7 enum-told-8 enum-told-9 enum-told-10 enum-told-11 enum-told-12 enum-told-13 returns returns-2 returns-3 returns-4 returns-5 returns-6 returns-7 returns-8 returns-9 returns-10 returns-11 returns-12 returns-13)
+    (tie.spec enum-told enum-told-2 enum-told-3 enum-told-4 enum-told-5 enum-told-6 enum-told-7 enum-told-8 enum-told-9 enum-told-10 enum-told-11 enum-told-12 enum-told-13 enum-told-14 enum-told-15 returns returns-2 returns-3 returns-4 returns-5 returns-6 returns-7 returns-8 returns-9 returns-10 returns-11 returns-12 returns-13 returns-14 returns-15)

@@ -9,7 +9,7 @@ use lib.Dec.{ltb}
 use Rattle.layout.specs.Layout.{header}
 use Rattle.layout.specs.Sizes.{capacity}
 use Rattle.layout.proofs.Soundness.{too-short, long-enough}
-use Rattle.sheet.proofs.Inside.{or-false-both}
+use Rattle.refusals.proofs.Range.{or-false-both}
 use Rattle.layout.proofs.places.Layout.wrong_size.Statement.{statement}
 use Rattle.layout.proofs.places.Layout.wrong_size.Tie as tie
 

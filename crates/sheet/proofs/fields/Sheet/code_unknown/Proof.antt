@@ -14,7 +14,7 @@ outside-requires-2 c κs = search needs
 
 returns : tie.Need-returns
 unfolding anyOutside
-returns c = rw (c .before .outside .ensures 0, c .outside2 .ensures 1, or-false)
+returns c = rw (c .before .outside .ensures, c .outside2 .ensures, or-false)
 
 pub code-unknown-spec : {M : Type 1} → statement M
 code-unknown-spec = tie.close (tie.spec outside-requires outside-requires-2 returns)

@@ -20,7 +20,7 @@ outside-requires-4 c κs = search needs
 
 returns : tie.Need-returns
 unfolding anyOutside
-returns c = rw (c .before .before .before .outside .ensures 14, c .before .before .outside2 .ensures 16, c .before .outside3 .ensures 18, c .outside4 .ensures 20, or-false)
+returns c = rw (c .before .before .before .outside .ensures, c .before .before .outside2 .ensures, c .before .outside3 .ensures, c .outside4 .ensures, or-false)
 
 pub economy-out-of-range-spec : {M : Type 1} → statement M
 economy-out-of-range-spec =

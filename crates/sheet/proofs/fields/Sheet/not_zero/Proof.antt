@@ -12,7 +12,7 @@ outside-requires c κs = search needs
 
 returns : tie.Need-returns
 unfolding anyOutside
-returns c = rw (eq-eqb (c .before .before .before .args .self .goal) 1 (c .before .if1 .taken), c .outside .ensures 22, or-false)
+returns c = rw (eq-eqb (c .before .before .before .args .self .goal) 1 (c .before .if1 .taken), c .outside .ensures, or-false)
 
 outside-requires-2 : tie.Need-outside-requires-2
 outside-requires-2 c κs = search needs
@@ -31,10 +31,10 @@ unfolding anyOutside
 returns-2 c =
     rw (
       ne-eqb (c .before .before .before .before .before .before .args .self .goal) 1 (c .before .before .before .before .if1 .left),
-      c .before .before .before .outside2 .ensures 14,
-      c .before .before .outside3 .ensures 16,
-      c .before .outside4 .ensures 18,
-      c .outside5 .ensures 20,
+      c .before .before .before .outside2 .ensures,
+      c .before .before .outside3 .ensures,
+      c .before .outside4 .ensures,
+      c .outside5 .ensures,
       or-false,
     )
 

@@ -44,11 +44,11 @@ returns c =
     rw (
       c .before .before .before .before .before .economy-out-of-range .ensures,
       if-goal (eqb (s .goal) 1) (economyFields s),
-      c .before .before .before .before .outside .ensures 4,
-      c .before .before .before .outside2 .ensures 6,
-      c .before .before .outside3 .ensures 8,
-      c .before .outside4 .ensures 10,
-      c .outside5 .ensures 12,
+      c .before .before .before .before .outside .ensures,
+      c .before .before .before .outside2 .ensures,
+      c .before .before .outside3 .ensures,
+      c .before .outside4 .ensures,
+      c .outside5 .ensures,
     )
 
 pub out-of-range-spec : {M : Type 1} → statement M

@@ -1,0 +1,86 @@
+-- The share falls as growth rises, so the shares of the two growth figures enclose the exact one.
+-- Assumes nothing.
+use mathlib.Core.Path.{_≡_, ap, _∙_}
+use Prim.Native.Nat.{ℕ, _+_, _-_, _*_, _^_, _≤_, _<_}
+use native.Mathlib.Nat.{add-sub-of-le, add-sub-cancel-left, div-eq-of-lt-le, pow-zero, pow-suc, le-of-lt, mul-le-mul-left, mul-le-mul-right, mul-lt-mul-of-pos-left, pow-le-pow-right}
+use native.Mathlib.Omega.{arith}
+use Rattle.fractions.specs.Fraction.{Fraction, _over_, _≼_, _≺_}
+use Rattle.fractions.specs.Rounding.{floor, ceiling, nearest}
+use Rattle.fractions.proofs.Rounding.{nearest-below, below-half, nearest-mono}
+use Rattle.amortization.specs.declared.compounding.Rounding.{Rounding}
+use Rattle.amortization.specs.declared.compounding.Rounding.the-variants.{Down, Up}
+use Rattle.amortization.specs.Growth.{start, growth, roundedTo, exactGrowth}
+use Rattle.amortization.specs.Share.{share, shareBy, exactShare}
+use Rattle.amortization.proofs.Growth.{growth-below, growth-above, simple-interest}
+
+-- both sides are i (d + b) (c + a)
+product : (i a b c d : ℕ) → i * (d + b) * a + i * ((d + b) * c) ≡ i * (c + a) * b + i * ((c + a) * d)
+product i a b c d = omega arith
+
+module _ (i : ℕ) (g h : Fraction) (hg : g .den < g .num) (hh : h .den < h .num) where
+  cleared : share i h .num * share i g .den + i * (h .num * g .den) ≡ share i g .num * share i h .den + i * (g .num * h .den)
+  cleared = rw (add-sub-of-le (le-of-lt hg), add-sub-of-le (le-of-lt hh)) at (product i (g .num - g .den) (h .num - h .den) (g .den) (h .den))
+
+  pub share-falls : 0 < i → g ≺ h → share i h ≺ share i g
+  share-falls some less = omega (arith, cleared, mul-lt-mul-of-pos-left less some)
+
+  pub nearest-falls : g ≼ h → nearest (share i h) ≤ nearest (share i g)
+  nearest-falls le = nearest-mono (share i h) (share i g) (omega arith) (omega arith) (omega (arith, cleared, mul-le-mul-left i le))
+
+module _ (i n : ℕ) (some : 1 ≤ i) (years : 1 ≤ n) where
+  -- each of the three growths is above 1
+  floor-grown : start < growth floor i n
+  floor-grown = omega (arith, simple-interest i n, mul-le-mul-left i years)
+
+  power : 1 ≤ 10_000 ^ n
+  power = pow-le-pow-right {n = 10_000} (omega arith) {i = 0} {j = n} (omega arith)
+
+  exact-grown : 10_000 ^ n < (10_000 + i) ^ n
+  exact-grown = omega (arith, growth-below i n, mul-le-mul-right (10_000 ^ n) floor-grown, power)
+
+  ceiling-grown : start < growth ceiling i n
+  ceiling-grown =
+      let not-less : ¬ (growth ceiling i n ≤ start) = λ le. omega (arith, growth-above i n, exact-grown, mul-le-mul-right (10_000 ^ n) le) in
+      omega arith
+
+  pub share-above : exactShare i n ≤ shareBy floor i n
+  share-above = nearest-falls i (growth floor i n over start) (exactGrowth i n) floor-grown exact-grown (growth-below i n)
+
+  pub share-below : shareBy ceiling i n ≤ exactShare i n
+  share-below = nearest-falls i (exactGrowth i n) (growth ceiling i n over start) exact-grown ceiling-grown (growth-above i n)
+
+  -- where the two ends round alike, they round to the exact share
+  pub share-exact : shareBy ceiling i n ≡ shareBy floor i n → shareBy floor i n ≡ exactShare i n
+  share-exact same = omega (arith, share-above, share-below)
+
+-- the share of one year
+pub one-year : (i : ℕ) → 1 ≤ i → exactShare i 1 ≡ 10_000 + i
+one-year i some =
+    let whole : nearest ((i * (10_000 + i)) over i) ≡ 10_000 + i = div-eq-of-lt-le (2 * i) {m = 2 * (i * (10_000 + i)) + i} (omega arith) (omega arith) in
+    let once : (10_000 + i) ^ 1 ≡ 10_000 + i = pow-suc (10_000 + i) 0 ∙ rw (pow-zero (10_000 + i)) (omega arith) in
+    rw (once, add-sub-cancel-left 10_000 i) whole
+
+-- every share is one that a sheet may have
+module _ (i n : ℕ) (some : 1 ≤ i) (rate : i ≤ 3_000) (years : 2 ≤ n) where
+  pub share-least : 1 ≤ shareBy floor i n
+  share-least =
+      let grown : start < growth floor i n = floor-grown i n some (omega arith) in
+      let half = below-half (share i (growth floor i n over start)) (omega arith) in
+      let none : ¬ (shareBy floor i n ≡ 0) = λ zero. omega (arith, mul-le-mul-right (growth floor i n) some, rw zero at half) in
+      omega arith
+
+  pub share-most : shareBy floor i n ≤ 10_000
+  share-most =
+      let a = growth floor i n - start in
+      let s = shareBy floor i n in
+      let grown = simple-interest i n in
+      let interest = mul-le-mul-left i years in
+      let half = nearest-below (share i (growth floor i n over start)) in
+      let whole : i * (start + a) ≡ i * growth floor i n = ap (λ (x : ℕ). i * x) (add-sub-of-le (omega (arith, grown))) in
+      let not-more : ¬ (10_001 ≤ s) = λ more. omega (arith, half, grown, interest, whole, mul-le-mul-right a more, mul-le-mul-right a rate) in
+      omega arith
+
+-- with either rounding, growth is above 10⁹
+pub grown : (r : Rounding) (i n : ℕ) → 1 ≤ i → 1 ≤ n → start < growth (roundedTo r) i n
+grown Down = floor-grown
+grown Up = ceiling-grown

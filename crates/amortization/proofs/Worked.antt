@@ -1,0 +1,17 @@
+-- Rates and terms worked out, by computation.
+-- Assumes nothing.
+use mathlib.Core.Path.{refl}
+use Rattle.refusals.specs.Response.{respond}
+use Rattle.amortization.specs.Growth.{growth}
+use Rattle.amortization.specs.Promises.{WorkedShares}
+
+pub worked-shares : WorkedShares
+unfolding respond growth
+worked-shares =
+    record {
+      ten-per-cent = refl;
+      corners = (refl, refl, refl, refl);
+      beyond = (refl, refl, refl, refl);
+      parted = (refl, refl, refl);
+      both = (refl, refl, refl);
+    }

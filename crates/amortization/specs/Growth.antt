@@ -1,0 +1,26 @@
+-- Growth by compound interest, at a rate i that counts 0.0001. 02, N1.
+-- Assumes nothing.
+use Prim.Native.Nat.{ℕ, zero, suc, _+_, _*_, _^_}
+use Rattle.fractions.specs.Fraction.{Fraction, _over_}
+use Rattle.fractions.specs.Rounding.{floor, ceiling}
+use Rattle.amortization.specs.declared.compounding.Rounding.{Rounding}
+use Rattle.amortization.specs.declared.compounding.Rounding.the-variants.{Down, Up}
+
+-- "from 10⁹"
+abbrev pub start : ℕ
+start = 1_000_000_000
+
+-- "Growth is compounded year by year from 10⁹, each year multiplied by (10,000 + i) / 10,000, once rounded down and once up.": after n years,
+-- each of which `round` rounds
+unfoldable pub growth : (Fraction → ℕ) → ℕ → ℕ → ℕ
+growth round i zero = start
+growth round i (suc n) = round ((growth round i n * (10_000 + i)) over 10_000)
+
+-- the code's names for the two roundings
+abbrev pub roundedTo : Rounding → Fraction → ℕ
+roundedTo Down = floor
+roundedTo Up = ceiling
+
+-- the growth unrounded, (1 + i / 10,000)ⁿ
+abbrev pub exactGrowth : ℕ → ℕ → Fraction
+exactGrowth i n = ((10_000 + i) ^ n) over (10_000 ^ n)

@@ -1,0 +1,5 @@
+pub mod Growth
+pub mod Share
+pub mod Refusals
+pub mod Outcome
+pub mod Promises
