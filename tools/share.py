@@ -5,7 +5,7 @@
 
 goes over every rate i from 1 to 3,000 and every term n from 2 to 30. It prints the pairs for which the two ends round
 differently, the least and the largest share given, how often a share is a half exactly, and the pairs whose exact share is
-nearest to one. Shares count 0.0001.
+nearest to a half. Shares count 0.0001.
 """
 from fractions import Fraction
 from heapq import nsmallest

@@ -24,8 +24,8 @@ module _ (i : ℕ) (g h : Fraction) (hg : g .den < g .num) (hh : h .den < h .num
   pub share-falls : 0 < i → g ≺ h → share i h ≺ share i g
   share-falls some less = omega (arith, cleared, mul-lt-mul-of-pos-left less some)
 
-  pub nearest-falls : g ≼ h → nearest (share i h) ≤ nearest (share i g)
-  nearest-falls le = nearest-mono (share i h) (share i g) (omega arith) (omega arith) (omega (arith, cleared, mul-le-mul-left i le))
+  share-order : g ≼ h → share i h ≼ share i g
+  share-order le = omega (arith, cleared, mul-le-mul-left i le)
 
 module _ (i n : ℕ) (some : 1 ≤ i) (years : 1 ≤ n) where
   -- each of the three growths is above 1
@@ -43,15 +43,18 @@ module _ (i n : ℕ) (some : 1 ≤ i) (years : 1 ≤ n) where
       let not-less : ¬ (growth ceiling i n ≤ start) = λ le. omega (arith, growth-above i n, exact-grown, mul-le-mul-right (10_000 ^ n) le) in
       omega arith
 
-  pub share-above : exactShare i n ≤ shareBy floor i n
-  share-above = nearest-falls i (growth floor i n over start) (exactGrowth i n) floor-grown exact-grown (growth-below i n)
+  pub share-above : share i (exactGrowth i n) ≼ share i (growth floor i n over start)
+  share-above = share-order i (growth floor i n over start) (exactGrowth i n) floor-grown exact-grown (growth-below i n)
 
-  pub share-below : shareBy ceiling i n ≤ exactShare i n
-  share-below = nearest-falls i (exactGrowth i n) (growth ceiling i n over start) exact-grown ceiling-grown (growth-above i n)
+  pub share-below : share i (growth ceiling i n over start) ≼ share i (exactGrowth i n)
+  share-below = share-order i (exactGrowth i n) (growth ceiling i n over start) exact-grown ceiling-grown (growth-above i n)
 
   -- where the two ends round alike, they round to the exact share
   pub share-exact : shareBy ceiling i n ≡ shareBy floor i n → shareBy floor i n ≡ exactShare i n
-  share-exact same = omega (arith, share-above, share-below)
+  share-exact same =
+      let below = nearest-mono (share i (growth ceiling i n over start)) (share i (exactGrowth i n)) (omega (arith, ceiling-grown)) (omega (arith, exact-grown)) share-below in
+      let above = nearest-mono (share i (exactGrowth i n)) (share i (growth floor i n over start)) (omega (arith, exact-grown)) (omega (arith, floor-grown)) share-above in
+      omega (arith, below, above)
 
 -- the share of one year
 pub one-year : (i : ℕ) → 1 ≤ i → exactShare i 1 ≡ 10_000 + i
@@ -61,7 +64,7 @@ one-year i some =
     rw (once, add-sub-cancel-left 10_000 i) whole
 
 -- every share is one that a sheet may have
-module _ (i n : ℕ) (some : 1 ≤ i) (rate : i ≤ 3_000) (years : 2 ≤ n) where
+module _ (i n : ℕ) (some : 1 ≤ i) (years : 2 ≤ n) where
   pub share-least : 1 ≤ shareBy floor i n
   share-least =
       let grown : start < growth floor i n = floor-grown i n some (omega arith) in
@@ -69,8 +72,8 @@ module _ (i n : ℕ) (some : 1 ≤ i) (rate : i ≤ 3_000) (years : 2 ≤ n) whe
       let none : ¬ (shareBy floor i n ≡ 0) = λ zero. omega (arith, mul-le-mul-right (growth floor i n) some, rw zero at half) in
       omega arith
 
-  pub share-most : shareBy floor i n ≤ 10_000
-  share-most =
+  pub share-most : i ≤ 3_000 → shareBy floor i n ≤ 10_000
+  share-most rate =
       let a = growth floor i n - start in
       let s = shareBy floor i n in
       let grown = simple-interest i n in

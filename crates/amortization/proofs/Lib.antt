@@ -1,5 +1,5 @@
+pub mod Computed
 pub mod Inside
 pub mod Growth
 pub mod Enclosure
-pub mod Worked
 pub mod Promises

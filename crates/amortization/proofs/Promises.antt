@@ -38,8 +38,8 @@ module _ (i n : ℕ) (given : List ℕ) (answered : shareResponse i n ≡ comple
 
   on-a-sheet : (1 ≤ exactShare i n) × (exactShare i n ≤ 10_000)
   on-a-sheet =
-      let least = share-least i n (ranges .some) (ranges .rate) (ranges .years) in
-      let most = share-most i n (ranges .some) (ranges .rate) (ranges .years) in
+      let least = share-least i n (ranges .some) (ranges .years) in
+      let most = share-most i n (ranges .some) (ranges .years) (ranges .rate) in
       (omega (arith, least, exact), omega (arith, most, exact))
 
 pub promises : Promises

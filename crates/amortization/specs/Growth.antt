@@ -10,17 +10,20 @@ use Rattle.amortization.specs.declared.compounding.Rounding.the-variants
 abbrev pub start : ℕ
 start = 1_000_000_000
 
--- "Growth is compounded year by year from 10⁹, each year multiplied by (10,000 + i) / 10,000, once rounded down and once up.": after n years,
--- each of which `round` rounds
+-- "each year multiplied by (10,000 + i) / 10,000", and rounded
+abbrev pub year : (Fraction → ℕ) → ℕ → ℕ → ℕ
+year round i g = round ((g * (10_000 + i)) over 10_000)
+
+-- "Growth is compounded year by year from 10⁹, each year multiplied by (10,000 + i) / 10,000, once rounded down and once up.": after n years
 unfoldable pub growth : (Fraction → ℕ) → ℕ → ℕ → ℕ
 growth round i zero = start
-growth round i (suc n) = round ((growth round i n * (10_000 + i)) over 10_000)
+growth round i (suc n) = year round i (growth round i n)
+
+-- the growth unrounded, (1 + i / 10,000)ⁿ
+abbrev pub exactGrowth : ℕ → ℕ → Fraction
+exactGrowth i n = ((10_000 + i) ^ n) over (10_000 ^ n)
 
 -- the code's names for the two roundings
 abbrev pub roundedTo : Rounding → Fraction → ℕ
 roundedTo Down = floor
 roundedTo Up = ceiling
-
--- the growth unrounded, (1 + i / 10,000)ⁿ
-abbrev pub exactGrowth : ℕ → ℕ → Fraction
-exactGrowth i n = ((10_000 + i) ^ n) over (10_000 ^ n)

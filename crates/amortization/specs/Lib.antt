@@ -3,3 +3,4 @@ pub mod Share
 pub mod Refusals
 pub mod Outcome
 pub mod Promises
+pub mod Worked

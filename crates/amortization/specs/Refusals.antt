@@ -20,5 +20,6 @@ cases i n =
     case (numberOf ShareUndecided) (not (eqb (shareBy ceiling i n) (shareBy floor i n))) ∷
     []
 
+-- "S is given to the nearest 0.0001, a half going up, when both ends round alike."
 abbrev pub shareResponse : ℕ → ℕ → Response
 shareResponse i n = respond (cases i n) (shareBy floor i n ∷ [])

@@ -1,8 +1,8 @@
--- A fraction rounded down is the largest whole number not above it; rounded up, the least not below it.
+-- A fraction rounded down is the largest whole number not above it; rounded up, the least not below it; and the nearest whole number.
 -- Assumes nothing.
 use mathlib.Core.Path.{_≡_, ap}
 use Prim.Native.Nat.{ℕ, _+_, _-_, _*_, _/_, _%_, _≤_, _<_}
-use native.Mathlib.Nat.{div-mul-le-self, lt-div-mul-add, div-add-mod', mod-lt, div-eq-of-lt-le, pos-of-ne-zero, le-mul-of-pos-right, mul-le-mul-right, mul-lt-mul-of-pos-right}
+use native.Mathlib.Nat.{le-trans, le-of-mul-le-mul-right, div-mul-le-self, lt-div-mul-add, div-add-mod', mod-lt, div-eq-of-lt-le, pos-of-ne-zero, le-mul-of-pos-right, mul-le-mul-right, mul-lt-mul-of-pos-right}
 use native.Mathlib.Omega.{arith}
 use Rattle.fractions.specs.Fraction.{Fraction, _over_, _≼_}
 use Rattle.fractions.specs.Rounding.{floor, ceiling, nearest}
@@ -20,6 +20,9 @@ pub above-previous : (p : Fraction) → 0 < p .den → 0 < ceiling p → (ceilin
 above-previous p pos some =
     let down : (ceiling p - 1 + 1) * p .den ≡ ceiling p * p .den = ap (λ x. x * p .den) (omega arith) in
     omega (arith, div-mul-le-self (p .num + (p .den - 1)) (p .den))
+
+pub floor-ceiling : (p : Fraction) → 0 < p .den → floor p ≤ ceiling p
+floor-ceiling p pos = le-of-mul-le-mul-right (le-trans (floor-below p) (ceiling-above p pos)) pos
 
 -- a fraction that is no less is rounded to a number that is no less
 module _ (p q : Fraction) (hp : 0 < p .den) (hq : 0 < q .den) (le : p ≼ q) where
@@ -63,7 +66,7 @@ half-up n = omega arith
 abbrev half-more : Fraction → Fraction
 half-more p = (2 * p .num + p .den) over (2 * p .den)
 
--- s − 1/2 is not above the fraction, and s + 1/2 is above it
+-- less a half it is not above the fraction; with a half more it is above it
 pub nearest-below : (p : Fraction) → nearest p * (2 * p .den) ≤ 2 * p .num + p .den
 nearest-below p = floor-below (half-more p)
 

@@ -1,4 +1,4 @@
--- A fraction rounded down and rounded up, as 01, "Ladder and figures", rounds its figures and quotients, and to the nearest.
+-- A fraction rounded down and rounded up, as 01, "Ladder and figures", rounds its figures and quotients; and the nearest whole number.
 -- Assumes nothing.
 use Prim.Native.Nat.{ℕ, _+_, _-_, _*_, _/_}
 use Rattle.fractions.specs.declared.Bounds.{Bounds}

@@ -9,7 +9,8 @@ use lib.Dec.{ltb, eqb}
 use lib.ListN.{length}
 use borrow.Author.Tests.{ltb-false, le-ltb, eqb-true, eq-eqb, not-false}
 use Rattle.refusals.specs.Cases.{NoneHolds}
-use Rattle.refusals.proofs.Range.{or-false-both}
+use Rattle.refusals.specs.Range.{outside}
+use Rattle.refusals.proofs.Range.{or-false-both, inside}
 use Rattle.layout.specs.declared.places.Layout.{Layout}
 use Rattle.layout.specs.Layout.{header, answerAt, bytesFor}
 use Rattle.layout.specs.Sizes.{capacity, count}
@@ -31,17 +32,19 @@ module _ (l : Layout) where
   pub right-size : (size c : ℕ) → wrongSize l size c ≡ false → (1 ≤ c) × (c ≤ l .largest) × (size ≡ bytesFor l c)
   right-size size c e =
       let parts = or-false-both (ltb size (header l)) _ e in
-      let rest = or-false-both (ltb c 1 || ltb (l .largest) c) _ (parts .1) in
-      let ends = or-false-both (ltb c 1) _ (rest .0) in
-      (ltb-false _ _ (ends .0), ltb-false _ _ (ends .1), eqb-true _ _ (not-false _ (rest .1)))
+      let rest = or-false-both (outside c 1 (l .largest)) _ (parts .1) in
+      let ends = inside c 1 (l .largest) (rest .0) in
+      (ends .0, ends .1, eqb-true _ _ (not-false _ (rest .1)))
 
-  -- the tests of 31 as the code makes them, h and a being the places that it works out
-  pub too-short : (size c h : ℕ) → h ≡ header l → ltb size h || (ltb c 1 || ltb (l .largest) c) ≡ true → true ≡ wrongSize l size c
-  too-short size c h is e = or-more (ltb size (header l)) (ltb c 1 || ltb (l .largest) c) (not (eqb size (bytesFor l c))) (rw is at e)
+  -- the tests of 31 as the code makes them, h and a being the places that it works out, and o whether the capacity is outside its range
+  pub too-short : (size c h : ℕ) (o : Bool) → h ≡ header l → o ≡ outside c 1 (l .largest) → ltb size h || o ≡ true → true ≡ wrongSize l size c
+  too-short size c h o is range e = or-more (ltb size (header l)) (outside c 1 (l .largest)) (not (eqb size (bytesFor l c))) (rw (is, range) at e)
 
-  pub long-enough : (size c h a : ℕ) → h ≡ header l → a ≡ answerAt l c c → ltb size h || (ltb c 1 || ltb (l .largest) c) ≡ false → not (eqb size a) ≡ wrongSize l size c
-  long-enough size c h a is at-end e =
-      let parts = or-false-both (ltb size (header l)) (ltb c 1 || ltb (l .largest) c) (rw is at e) in
+  pub long-enough :
+      (size c h a : ℕ) (o : Bool) → h ≡ header l → o ≡ outside c 1 (l .largest) → a ≡ answerAt l c c → ltb size h || o ≡ false →
+      not (eqb size a) ≡ wrongSize l size c
+  long-enough size c h a o is range at-end e =
+      let parts = or-false-both (ltb size (header l)) (outside c 1 (l .largest)) (rw (is, range) at e) in
       let all : a ≡ bytesFor l c = omega (arith, at-end) in
       rw (parts .0, parts .1, all) refl
 

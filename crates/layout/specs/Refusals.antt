@@ -7,6 +7,7 @@ use lib.Dec.{ltb, eqb}
 use lib.ListN.{length}
 use Rattle.refusals.specs.declared.Refusal.the-variants.{BookSize, CountAboveCapacity}
 use Rattle.refusals.specs.Numbers.{numberOf}
+use Rattle.refusals.specs.Range.{outside}
 use Rattle.refusals.specs.Cases.{Case, case}
 use Rattle.layout.specs.declared.places.Layout.{Layout}
 use Rattle.layout.specs.Layout.{header, bytesFor}
@@ -15,7 +16,7 @@ use Rattle.layout.specs.Sizes.{capacity, count}
 module _ (l : Layout) where
   -- "31: under 4 bytes, c outside 1 to 1,000, or length not 4 + 32c."
   abbrev pub wrongSize : ℕ → ℕ → Bool
-  wrongSize size c = ltb size (header l) || ((ltb c 1 || ltb (l .largest) c) || not (eqb size (bytesFor l c)))
+  wrongSize size c = ltb size (header l) || (outside c 1 (l .largest) || not (eqb size (bytesFor l c)))
 
   -- of every book that is filed in or read
   abbrev pub bookCases : List ℕ → List Case

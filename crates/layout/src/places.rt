@@ -4,6 +4,7 @@ ghost use Prim.Native.Nat.{_≤_};
 ghost use Rattle.layout.specs.Layout.{standard as Layout·standard, header as Layout·header, sheetAt, answerAt};
 ghost use Rattle.layout.specs.Refusals.{wrongSize};
 ghost use Rattle.layout.specs.Usable.{Usable};
+use refusals::outside;
 
 // The bytes before the sizes, the bytes of a size, the largest capacity, and the bytes of a sheet.
 pub struct Layout {
@@ -54,8 +55,7 @@ impl Layout {
         ensures { λ r. ⌜ r ≡ wrongSize self size capacity ⌝ }
     {
         let short = size < self.header();
-        let outside = (capacity < 1) | (self.largest < capacity);
-        if short | outside {
+        if short | outside(capacity, 1, self.largest) {
             return true;
         }
         size != self.answer_at(capacity, capacity)

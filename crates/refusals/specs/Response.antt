@@ -7,7 +7,7 @@ use mathlib.Core.Bool.{true, false}
 use mathlib.Core.List.{List, [], _∷_}
 use Rattle.refusals.specs.Cases.{Case, NoneHolds, FirstHolds}
 
--- 01, "Sent back because of the sheet": "A refusal returns its number alone."
+-- 01, "Sent back because of the sheet": "A refusal returns its number alone." A complete call has values: bytes, or a yearly share.
 pub data Response : Type 0 where
   refused : ℕ → Response
   complete : List ℕ → Response

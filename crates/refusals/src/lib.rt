@@ -22,7 +22,7 @@ pub enum Refusal {
     NoSuchEntry,
     BookFull,
     EntryUnsound,
-    // Of a yearly share: a rate or a term outside its range, a share that the figures round to two numbers.
+    // Of a yearly share: a rate or a term outside its range, a share whose two ends round differently.
     RateOrTerm,
     ShareUndecided,
 }

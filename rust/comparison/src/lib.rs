@@ -2,9 +2,9 @@
 //! proved library is compared with them.
 
 pub mod both;
-pub mod exact;
 pub mod float;
 pub mod plain;
 pub mod sheets;
 #[cfg(target_arch = "x86_64")]
 pub mod stack;
+pub mod unrounded;

@@ -704,10 +704,10 @@ pub fn read(book: &[u8], entry: u64) -> Result<Entry, Refusal> {
 
 // The yearly share from interest and years.
 
-/// "The rate i counts 0.0001 and runs from 1 to 3,000."
+/// "The rate i counts 0.0001 and runs from 1 to 3,000"
 pub const RATES: RangeInclusive<u64> = 1..=3_000;
 
-/// "n runs from 2 to 30, since one year would give more than 1."
+/// "n runs from 2 to 30, since one year would give more than 1"
 pub const TERMS: RangeInclusive<u64> = 2..=30;
 
 /// A growth of one.

@@ -2,7 +2,7 @@
 //! also from unrounded growth; then rates and terms outside their ranges.
 
 use comparison::plain::{self, Bracket, RATES, TERMS};
-use comparison::{both, exact};
+use comparison::{both, unrounded};
 
 /// The rates and terms whose two ends round differently.
 const PARTED: [(u64, u64); 3] = [(4, 4), (158, 8), (299, 16)];
@@ -53,7 +53,7 @@ fn pairs() -> impl Iterator<Item = (u64, u64)> {
 
 /// The exact share, and one that the sheet's field takes.
 fn assert_share(rate: u64, years: u64, share: u16) {
-    let exact = exact::share(rate, years);
+    let exact = unrounded::share(rate, years);
     assert_eq!(share, exact, "exact share of rate {rate}, {years} years");
     let field = plain::YEARLY_SHARE;
     let taken = (field.least..=field.greatest).contains(&share.into());
@@ -100,7 +100,7 @@ fn parted_ends() {
         let (lower, upper) = growth[place];
         assert_eq!(plain::growth(rate, years), Bracket { lower, upper });
         assert_eq!(plain::share_ends(rate, years), ends[place]);
-        assert_eq!(u128::from(exact::share(rate, years)), ends[place].1);
+        assert_eq!(u128::from(unrounded::share(rate, years)), ends[place].1);
     }
 }
 

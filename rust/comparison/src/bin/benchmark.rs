@@ -269,7 +269,7 @@ fn proved_share(rate: u64, years: u64) -> Result<u16, u8> {
 }
 
 /// One call for each rate and term.
-fn over_terms<T>(call: impl Fn(u64, u64) -> T) {
+fn over_terms<T>(mut call: impl FnMut(u64, u64) -> T) {
     for rate in RATES {
         for years in TERMS {
             black_box(call(black_box(rate), black_box(years)));
@@ -314,6 +314,8 @@ fn print_stack() {
         let entry = u64::from(capacity) - 1;
         stacks[3].run(|| _ = kennelday::read(&book, entry, &mut stored, &mut answer));
     }
+    let mut share = PaintedStack::default();
+    over_terms(|rate, years| share.run(|| _ = proved_share(rate, years)));
     let mut empty = PaintedStack::default();
     empty.run(|| ());
     line("sheets", sheets.len());
@@ -321,6 +323,7 @@ fn print_stack() {
     for (name, stack) in ["answer", "new book", "file", "read"].iter().zip(&stacks) {
         line(&format!("{name}, bytes"), stack.used());
     }
+    line("share, bytes", share.used());
 }
 
 fn main() {

@@ -55,7 +55,7 @@ cast-t11 : tie.Need-cast-t11
 cast-t11 c =
     let e = c .before .before .before in
     let h = admitted e in
-    record { fits = rw (c .before .share-by2 .ensures) (omega (arith, share-most (rate e) (years e) (h .some) (h .rate) (h .years))) }
+    record { fits = rw (c .before .share-by2 .ensures) (omega (arith, share-most (rate e) (years e) (h .some) (h .years) (h .rate))) }
 
 returns-2 : tie.Need-returns-2
 unfolding respond

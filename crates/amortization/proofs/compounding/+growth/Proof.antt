@@ -1,17 +1,16 @@
 -- `growth` meets its contract, by recursion on the years left.
 -- Assumes nothing.
 use mathlib.Core.Path.{ap, sym, _∙_}
-use Prim.Native.Nat.{ℕ, _+_, _-_, _*_, _<_}
+use Prim.Native.Nat.{ℕ, _-_, _<_}
 use native.Mathlib.Omega.{arith}
 use borrow.Fn.Kinds.{In}
 use borrow.Fn.PlainCycle.{Measures, is, falls, and}
-use Rattle.fractions.specs.Fraction.{_over_}
-use Rattle.amortization.specs.Growth.{growth as Growth·growth, roundedTo}
+use Rattle.amortization.specs.Growth.{year as Growth·year, growth as Growth·growth, roundedTo}
 use Rattle.amortization.proofs.Growth.{year-fits, last-year}
 use Rattle.amortization.proofs.compounding.growth.Reads as growth
 use Rattle.amortization.proofs.compounding.growth.Kinds as growth-kinds
 use Rattle.amortization.proofs.compounding.+growth.Lts-growth as growth-lts
-use Rattle.amortization.proofs.compounding.per_10_000.Reads as per-10-000-reads
+use Rattle.amortization.proofs.compounding.year.Reads as year-reads
 use Rattle.amortization.proofs.compounding.+growth.{statement}
 use Rattle.amortization.proofs.compounding.+growth.Tie.{close}
 
@@ -26,39 +25,29 @@ module _ (t : ℕ) where
   abbrev asked : In 0 growth-kinds.ps
   asked = and 0 growth-kinds.ps (falls 0 growth-kinds.ps _<_ μ-growth t) growth.Pre
 
-  sub-growth : growth-lts.Need-sub-growth (asked, growth.Post, per-10-000-reads.Asked, per-10-000-reads.Learnt) given growth.Post
+  sub-growth : growth-lts.Need-sub-growth (asked, growth.Post, year-reads.Asked, year-reads.Learnt) given growth.Post
   sub-growth c = omega (arith, c .if1 .taken)
 
-  growth-requires : growth-lts.Need-growth-requires (asked, growth.Post, per-10-000-reads.Asked, per-10-000-reads.Learnt) given growth.Post
+  growth-requires : growth-lts.Need-growth-requires (asked, growth.Post, year-reads.Asked, year-reads.Learnt) given growth.Post
   growth-requires c κs = (omega (arith, c .if1 .taken, c .before .pre .0), (c .before .pre .1 .0, omega (arith, c .before .pre .1 .1)))
 
-  add : growth-lts.Need-add-per-10-000 (asked, growth.Post, per-10-000-reads.Asked, per-10-000-reads.Learnt) given growth.Post
-  add c = record { fits = omega (arith, c .before .before .pre .1 .0) }
-
-  -- a year's product fits
-  product :
-      (c : growth-lts.After-growth (asked, growth.Post, per-10-000-reads.Asked, per-10-000-reads.Learnt) given growth.Post) →
-      c .growth .result * (10_000 + c .before .before .args .rate) < 1_000_000_000_000_000_000
-  product c =
+  year-requires : growth-lts.Need-year-requires (asked, growth.Post, year-reads.Asked, year-reads.Learnt) given growth.Post
+  year-requires c κs =
       let start = c .before .before in
-      rw (c .growth .ensures) (year-fits (start .args .rounding) (start .args .rate) (start .args .left - 1) (start .pre .1 .0) (omega (arith, start .pre .1 .1)))
+      let a = start .args in
+      let fits = year-fits (a .rounding) (a .rate) (a .left - 1) (start .pre .1 .0) (omega (arith, start .pre .1 .1)) in
+      (start .pre .1 .0, rw (c .growth .ensures) (omega (arith, fits)))
 
-  mul : growth-lts.Need-mul-per-10-000 (asked, growth.Post, per-10-000-reads.Asked, per-10-000-reads.Learnt) given growth.Post
-  mul c = record { fits = omega (arith, product c) }
-
-  per-10-000-requires : growth-lts.Need-per-10-000-requires (asked, growth.Post, per-10-000-reads.Asked, per-10-000-reads.Learnt) given growth.Post
-  per-10-000-requires c κs = product c
-
-  returns : growth-lts.Need-returns (asked, growth.Post, per-10-000-reads.Asked, per-10-000-reads.Learnt) given growth.Post
+  returns : growth-lts.Need-returns (asked, growth.Post, year-reads.Asked, year-reads.Learnt) given growth.Post
   returns c =
-      let start = c .before .before .before in
-      c .per-10-000 .ensures ∙ ap (λ (g : ℕ). roundedTo (start .args .rounding) ((g * (10_000 + start .args .rate)) over 10_000)) (c .before .growth .ensures)
-      ∙ sym (last-year (roundedTo (start .args .rounding)) (start .args .rate) (start .args .left) (omega (arith, c .before .before .if1 .taken)))
+      let a = c .before .before .before .args in
+      c .year .ensures ∙ ap (Growth·year (roundedTo (a .rounding)) (a .rate)) (c .before .growth .ensures)
+      ∙ sym (last-year (roundedTo (a .rounding)) (a .rate) (a .left) (omega (arith, c .before .before .if1 .taken)))
 
-  returns-2 : growth-lts.Need-returns-2 (asked, growth.Post, per-10-000-reads.Asked, per-10-000-reads.Learnt) given growth.Post
+  returns-2 : growth-lts.Need-returns-2 (asked, growth.Post, year-reads.Asked, year-reads.Learnt) given growth.Post
   unfolding Growth·growth
   returns-2 c = ap (Growth·growth (roundedTo (c .before .args .rounding)) (c .before .args .rate)) {x = 0} {y = c .before .args .left} (omega (arith, c .if1 .left))
 
 pub +growth-spec : {M : Type 1} → statement M
 +growth-spec =
-    close μ-growth (λ t. growth-lts.spec (asked t, growth.Post, per-10-000-reads.Asked, per-10-000-reads.Learnt) (given t) growth.Post (sub-growth t) (growth-requires t) (add t) (mul t) (per-10-000-requires t) (returns t) (returns-2 t))
+    close μ-growth (λ t. growth-lts.spec (asked t, growth.Post, year-reads.Asked, year-reads.Learnt) (given t) growth.Post (sub-growth t) (growth-requires t) (year-requires t) (returns t) (returns-2 t))

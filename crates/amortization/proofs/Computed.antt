@@ -3,7 +3,7 @@
 use mathlib.Core.Path.{refl}
 use Rattle.refusals.specs.Response.{respond}
 use Rattle.amortization.specs.Growth.{growth}
-use Rattle.amortization.specs.Promises.{WorkedShares}
+use Rattle.amortization.specs.Worked.{WorkedShares}
 
 pub worked-shares : WorkedShares
 unfolding respond growth
@@ -12,6 +12,6 @@ worked-shares =
       ten-per-cent = refl;
       corners = (refl, refl, refl, refl);
       beyond = (refl, refl, refl, refl);
-      parted = (refl, refl, refl);
+      parted = refl;
       both = (refl, refl, refl);
     }
