@@ -1,7 +1,7 @@
 #!/bin/sh
 # Runs the listing program where the stored run does not reach: the examples, empty input, borders of blocks, reads cut anywhere, and
 # reads and writes that fail.
-set -u
+set -eu
 cd "$(dirname "$0")/.." || exit 1
 listing=target/bin/listing
 made=$(mktemp -d) || exit 1

@@ -10,8 +10,9 @@ unfolding respond growth
 worked-shares =
     record {
       ten-per-cent = refl;
+      three-places = (refl, refl);
       corners = (refl, refl, refl, refl);
       beyond = (refl, refl, refl, refl);
-      parted = refl;
+      undecided = refl;
       both = (refl, refl, refl);
     }

@@ -10,40 +10,40 @@ use Rattle.fractions.specs.Rounding.{floor, ceiling}
 use Rattle.fractions.proofs.Rounding.{floor-below, ceiling-above, ceiling-mono, floor-ceiling}
 use Rattle.amortization.specs.declared.compounding.Rounding.{Rounding}
 use Rattle.amortization.specs.declared.compounding.Rounding.the-variants.{Down, Up}
-use Rattle.amortization.specs.Growth.{start, year, growth, exactGrowth, roundedTo}
+use Rattle.amortization.specs.Growth.{principal, year, growth, exactGrowth, roundedTo}
 
 -- One law for both roundings, `Side` being ≤ or ≥: a rounding that keeps to one side of each fraction keeps to that side of the exact growth.
 module _ (Side : ℕ → ℕ → Type 0) (same : (a : ℕ) → Side a a) (trans : (a b c : ℕ) → Side a b → Side b c → Side a c) (times : (a b k : ℕ) → Side a b → Side (a * k) (b * k)) (round : Fraction → ℕ) (rounded : (p : Fraction) → 0 < p .den → Side (round p * p .den) (p .num)) where
-  one-side : (i n : ℕ) → Side (growth round i n * 10_000 ^ n) ((10_000 + i) ^ n * start)
+  one-side : (i n : ℕ) → Side (growth round i n * 10_000 ^ n) ((10_000 + i) ^ n * principal)
   unfolding growth
-  one-side i zero = rw (pow-zero (10_000 + i)) (same start)
+  one-side i zero = rw (pow-zero (10_000 + i)) (same principal)
   one-side i (suc n) =
       let g = growth round i n in
       let first : year round i g * 10_000 * 10_000 ^ n ≡ year round i g * 10_000 ^ suc n = rw (pow-suc 10_000 n) (omega arith) in
       let middle : g * 10_000 ^ n * (10_000 + i) ≡ g * (10_000 + i) * 10_000 ^ n = omega arith in
-      let last : (10_000 + i) ^ n * start * (10_000 + i) ≡ (10_000 + i) ^ suc n * start = rw (pow-suc (10_000 + i) n) (omega arith) in
+      let last : (10_000 + i) ^ n * principal * (10_000 + i) ≡ (10_000 + i) ^ suc n * principal = rw (pow-suc (10_000 + i) n) (omega arith) in
       rw (first, last) at (trans _ _ _ (times _ _ (10_000 ^ n) (rounded ((g * (10_000 + i)) over 10_000) (omega arith))) (rw middle at (times _ _ (10_000 + i) (one-side i n))))
 
 -- "once rounded down and once up": the exact growth lies between the two
-pub growth-below : (i n : ℕ) → (growth floor i n over start) ≼ exactGrowth i n
+pub growth-below : (i n : ℕ) → (growth floor i n over principal) ≼ exactGrowth i n
 growth-below = one-side _≤_ le-refl (λ a b c h k. le-trans h k) (λ a b k h. mul-le-mul-right k h) floor (λ p _. floor-below p)
 
-pub growth-above : (i n : ℕ) → exactGrowth i n ≼ (growth ceiling i n over start)
+pub growth-above : (i n : ℕ) → exactGrowth i n ≼ (growth ceiling i n over principal)
 growth-above = one-side (λ a b. b ≤ a) le-refl (λ a b c h k. le-trans k h) (λ a b k h. mul-le-mul-right k h) ceiling ceiling-above
 
 -- compound interest is no less than simple interest
-pub simple-interest : (i n : ℕ) → start + 100_000 * (i * n) ≤ growth floor i n
+pub simple-interest : (i n : ℕ) → principal + 100_000 * (i * n) ≤ growth floor i n
 unfolding growth
 simple-interest i zero = omega arith
 simple-interest i (suc n) =
     let before = simple-interest i n in
-    omega (arith, before, mul-le-mul-right {m = start} {n = growth floor i n} i (omega (arith, before)), mul-suc i n)
+    omega (arith, before, mul-le-mul-right {m = principal} {n = growth floor i n} i (omega (arith, before)), mul-suc i n)
 
 -- No growth is above that of thirty years at the highest rate, rounded up.
 module _ (round : Fraction → ℕ) (not-above : (p : Fraction) → 0 < p .den → round p ≤ ceiling p) (i : ℕ) (rate : i ≤ 3_000) where
   at-highest : (n : ℕ) → growth round i n ≤ growth ceiling 3_000 n
   unfolding growth
-  at-highest zero = le-refl start
+  at-highest zero = le-refl principal
   at-highest (suc n) =
       let p : Fraction = (growth round i n * (10_000 + i)) over 10_000 in
       let q : Fraction = (growth ceiling 3_000 n * 13_000) over 10_000 in

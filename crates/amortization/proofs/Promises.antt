@@ -31,16 +31,16 @@ module _ (i n : ℕ) (given : List ℕ) (answered : shareResponse i n ≡ comple
 
   exact : shareBy floor i n ≡ exactShare i n
   unfolding NoneHolds
-  exact = share-exact i n (ranges .some) (omega (arith, ranges .years)) (eqb-true _ _ (not-false _ (none .0 .1 .0)))
+  exact = share-exact i n (ranges .rate-least) (omega (arith, ranges .term-least)) (eqb-true _ _ (not-false _ (none .0 .1 .0)))
 
   pub given-exact : given ≡ (exactShare i n ∷ [])
   given-exact = sym (none .1) ∙ ap (λ (s : ℕ). s ∷ []) exact
 
-  on-a-sheet : (1 ≤ exactShare i n) × (exactShare i n ≤ 10_000)
-  on-a-sheet =
-      let least = share-least i n (ranges .some) (ranges .years) in
-      let most = share-most i n (ranges .some) (ranges .years) (ranges .rate) in
-      (omega (arith, least, exact), omega (arith, most, exact))
+on-a-sheet : (i n s : ℕ) → shareResponse i n ≡ complete (s ∷ []) → (1 ≤ s) × (s ≤ 10_000)
+on-a-sheet i n s answered =
+    let h = ranges i n (s ∷ []) answered in
+    let given : shareBy floor i n ≡ s = cc (none i n (s ∷ []) answered .1) in
+    (rw given at (share-least i n (h .rate-least) (h .term-least)), rw given at (share-most i n (h .rate-least) (h .term-least) (h .rate-most)))
 
 pub promises : Promises
 promises =

@@ -6,9 +6,9 @@ use Rattle.fractions.specs.Rounding.{floor, ceiling}
 use Rattle.amortization.specs.declared.compounding.Rounding.{Rounding}
 use Rattle.amortization.specs.declared.compounding.Rounding.the-variants.{Down, Up}
 
--- "from 10⁹"
-abbrev pub start : ℕ
-start = 1_000_000_000
+-- "from 10⁹": what is compounded
+abbrev pub principal : ℕ
+principal = 1_000_000_000
 
 -- "each year multiplied by (10,000 + i) / 10,000", and rounded
 abbrev pub year : (Fraction → ℕ) → ℕ → ℕ → ℕ
@@ -16,7 +16,7 @@ year round i g = round ((g * (10_000 + i)) over 10_000)
 
 -- "Growth is compounded year by year from 10⁹, each year multiplied by (10,000 + i) / 10,000, once rounded down and once up.": after n years
 unfoldable pub growth : (Fraction → ℕ) → ℕ → ℕ → ℕ
-growth round i zero = start
+growth round i zero = principal
 growth round i (suc n) = year round i (growth round i n)
 
 -- the growth unrounded, (1 + i / 10,000)ⁿ

@@ -7,19 +7,19 @@ use Rattle.fractions.specs.Fraction.{Fraction, _over_, _≼_, _≺_}
 use Rattle.fractions.specs.Rounding.{floor, ceiling}
 use Rattle.refusals.specs.Cases.{numbers}
 use Rattle.refusals.specs.Response.{complete, FirstOrComplete}
-use Rattle.amortization.specs.Growth.{start, growth, exactGrowth}
+use Rattle.amortization.specs.Growth.{principal, growth, exactGrowth}
 use Rattle.amortization.specs.Share.{share, shareBy, exactShare}
 use Rattle.amortization.specs.Refusals.{cases, shareResponse}
 
 pub record Promises : Type 0 where
   -- "once rounded down and once up": the exact growth lies between the two figures
-  pub growth-enclosed : (i n : ℕ) → ((growth floor i n over start) ≼ exactGrowth i n) × (exactGrowth i n ≼ (growth ceiling i n over start))
+  pub growth-enclosed : (i n : ℕ) → ((growth floor i n over principal) ≼ exactGrowth i n) × (exactGrowth i n ≼ (growth ceiling i n over principal))
   -- "S falls as growth rises": of any two growths above 1
   pub share-falls : (i : ℕ) (g h : Fraction) → 0 < i → g .den < g .num → h .den < h .num → g ≺ h → share i h ≺ share i g
   -- "so the two growth figures enclose it": from one year up
   pub share-enclosed :
       (i n : ℕ) → 1 ≤ i → 1 ≤ n →
-      (share i (growth ceiling i n over start) ≼ share i (exactGrowth i n)) × (share i (exactGrowth i n) ≼ share i (growth floor i n over start))
+      (share i (growth ceiling i n over principal) ≼ share i (exactGrowth i n)) × (share i (exactGrowth i n) ≼ share i (growth floor i n over principal))
   -- the first case that holds, or a share; the listed order
   pub first : (i n : ℕ) → FirstOrComplete (cases i n) (shareBy floor i n ∷ []) (shareResponse i n)
   pub order : (i n : ℕ) → numbers (cases i n) ≡ (41 ∷ 42 ∷ [])
@@ -28,4 +28,4 @@ pub record Promises : Type 0 where
   -- "S is given to the nearest 0.0001, a half going up": whatever is given is the exact share so rounded
   pub given-exact : (i n : ℕ) (given : List ℕ) → shareResponse i n ≡ complete given → given ≡ (exactShare i n ∷ [])
   -- and may stand on a sheet: "S, yearly share | 0.0001 | 1 to 10,000" (01, "The sheet: 24 bytes")
-  pub on-a-sheet : (i n : ℕ) (given : List ℕ) → shareResponse i n ≡ complete given → (1 ≤ exactShare i n) × (exactShare i n ≤ 10_000)
+  pub on-a-sheet : (i n s : ℕ) → shareResponse i n ≡ complete (s ∷ []) → (1 ≤ s) × (s ≤ 10_000)

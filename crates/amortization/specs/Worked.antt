@@ -10,11 +10,14 @@ use Rattle.amortization.specs.Refusals.{shareResponse}
 pub record WorkedShares : Type 0 where
   -- "Ten per cent over six years gives 2,296."
   pub ten-per-cent : shareResponse 1_000 6 ≡ complete (2_296 ∷ [])
+  -- of the source documents, 002, (2), prints 22.96 per cent for it; 001, on 5.4.7, prints 0.264 for ten per cent over five years and
+  -- 0.142 for seven per cent over ten, which are these to three places
+  pub three-places : (shareResponse 1_000 5 ≡ complete (2_638 ∷ [])) × (shareResponse 700 10 ≡ complete (1_424 ∷ []))
   -- the corners of the ranges
   pub corners : (shareResponse 1 2 ≡ complete (5_001 ∷ [])) × (shareResponse 1 30 ≡ complete (334 ∷ [])) × (shareResponse 3_000 2 ≡ complete (7_348 ∷ [])) × (shareResponse 3_000 30 ≡ complete (3_001 ∷ []))
   -- "41 for a rate or term outside its range"
   pub beyond : (shareResponse 0 6 ≡ refused 41) × (shareResponse 3_001 6 ≡ refused 41) × (shareResponse 1_000 1 ≡ refused 41) × (shareResponse 1_000 31 ≡ refused 41)
   -- "then 42 when the two ends round differently."
-  pub parted : shareResponse 4 4 ≡ refused 42
+  pub undecided : shareResponse 4 4 ≡ refused 42
   -- where both hold, 41 counts
   pub both : (shareBy ceiling 9 72 ≡ 143) × (shareBy floor 9 72 ≡ 144) × (shareResponse 9 72 ≡ refused 41)

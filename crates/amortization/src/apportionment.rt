@@ -5,6 +5,7 @@ ghost use Rattle.amortization.specs.Growth.{roundedTo};
 ghost use Rattle.amortization.specs.Share.{shareBy};
 ghost use Rattle.amortization.specs.Refusals.{shareResponse};
 ghost use Rattle.amortization.specs.Outcome.{response};
+use crate::compounding::PRINCIPAL;
 use crate::compounding::Rounding;
 use crate::compounding::growth;
 use fractions::nearest;
@@ -40,5 +41,5 @@ fn share_by(rate: u64, years: u64, rounding: Rounding) -> u64
     ensures { λ r. ⌜ r ≡ shareBy (roundedTo rounding) rate years ⌝ }
 {
     let growth = growth(rate, years, rounding);
-    nearest(rate * growth, growth - 1_000_000_000)
+    nearest(rate * growth, growth - PRINCIPAL)
 }

@@ -6,12 +6,15 @@ ghost use Rattle.amortization.specs.Growth.{year as Growth·year};
 ghost use Rattle.amortization.specs.Growth.{roundedTo};
 use fractions::quotient;
 
+// What is compounded.
+pub(crate) const PRINCIPAL: u64 = 1_000_000_000;
+
 pub(crate) enum Rounding {
     Down,
     Up,
 }
 
-// The growth of 10⁹ with so many years left to compound.
+// The growth of the principal with so many years left to compound.
 pub(crate) fn growth(rate: u64, left: u64, rounding: Rounding) -> u64
     requires { ⌜ rate ≤ 3_000 ⌝ }
     requires { ⌜ left ≤ 30 ⌝ }
@@ -20,7 +23,7 @@ pub(crate) fn growth(rate: u64, left: u64, rounding: Rounding) -> u64
     if 0 < left {
         year(growth(rate, left - 1, rounding), rate, rounding)
     } else {
-        1_000_000_000
+        PRINCIPAL
     }
 }
 

@@ -1,25 +1,24 @@
 -- The two ends round alike at all 87,000 pairs of a rate and a term but three: one test that antt computes, a row of 29 terms for each rate.
 -- Assumes nothing.
-use mathlib.Core.Path.{_≡_, refl, subst}
+use mathlib.Core.Path.{_≡_, refl, subst, ap}
 use mathlib.Core.Bool.{Bool, true, false, not, _&&_, _||_, and-eq-true-iff, false≢true}
-use mathlib.Core.Logic.{inl, inr}
-use mathlib.Core.List.{List, [], _∷_}
+use mathlib.Core.List.{List, [], _∷_, List·Memᴰ, List·Memᴰ·head, List·Memᴰ·tail}
 use Prim.Native.Nat.{ℕ, zero, suc, _+_, _-_, _<_}
 use native.Mathlib.Nat.{add-zero, add-sub-of-le, le-of-suc-le-suc, not-suc-le-zero}
 use native.Mathlib.Omega.{arith}
 use lib.Dec.{eqb}
-use borrow.Author.Tests.{eqb-true}
+use borrow.Author.Tests.{eqb-true, not-true}
 use Rattle.fractions.specs.Fraction.{_over_}
 use Rattle.fractions.specs.Rounding.{floor, ceiling, nearest}
 use Rattle.refusals.specs.Cases.{case, NoneHolds}
 use Rattle.refusals.specs.Range.{outside}
 use Rattle.refusals.specs.Response.{refused, respond}
 use Rattle.refusals.proofs.Response.{absent, behind, front}
-use Rattle.amortization.specs.Growth.{start, year, growth}
+use Rattle.amortization.specs.Growth.{principal, year, growth}
 use Rattle.amortization.specs.Share.{share, shareBy}
 use Rattle.amortization.specs.Refusals.{shareResponse}
 use Rattle.amortization.proofs.Inside.{Inside, both-inside}
-use Rattle.amortization_pairs.specs.Pairs.{parted, OneOf, AllPairs}
+use Rattle.amortization_pairs.specs.Pairs.{undecided, AllPairs}
 
 -- a pair is in a list, by its test
 abbrev listed : ℕ → ℕ → List (ℕ × ℕ) → Bool
@@ -28,7 +27,7 @@ listed i n (p ∷ ps) = (eqb i (p .0) && eqb n (p .1)) || listed i n ps
 
 -- the shares of the growth figures l and u round alike, or the pair is one of the three
 abbrev passes : ℕ → ℕ → ℕ → ℕ → Bool
-passes i n l u = eqb (nearest (share i (u over start))) (nearest (share i (l over start))) || listed i n parted
+passes i n l u = eqb (nearest (share i (u over principal))) (nearest (share i (l over principal))) || listed i n undecided
 
 -- the terms n to n + k − 1, l and u being the growth figures of n years
 abbrev row : ℕ → ℕ → ℕ → ℕ → ℕ → Bool
@@ -72,46 +71,41 @@ rows-at = each whole rows (λ k i. and-eq-true-iff (whole i) (rows k (suc i)) .0
 
 pair-passes : (i n : ℕ) → Inside i n → at i n ≡ true
 pair-passes i n h =
-    let its-row = subst (λ (m : ℕ). whole m ≡ true) (add-sub-of-le (h .some)) (rows-at 3_000 1 tested (i - 1) (omega (arith, h .some, h .rate))) in
-    subst (λ (m : ℕ). at i m ≡ true) (add-sub-of-le (h .years)) (row-at 29 i 2 its-row (n - 2) (omega (arith, h .years, h .term)))
+    let its-row = subst (λ (m : ℕ). whole m ≡ true) (add-sub-of-le (h .rate-least)) (rows-at 3_000 1 tested (i - 1) (omega (arith, h .rate-least, h .rate-most))) in
+    subst (λ (m : ℕ). at i m ≡ true) (add-sub-of-le (h .term-least)) (row-at 29 i 2 its-row (n - 2) (omega (arith, h .term-least, h .term-most)))
 
 -- The three are refused with 42.
 abbrev Refused : List (ℕ × ℕ) → Type 0
 Refused [] = Unit {0}
 Refused (p ∷ ps) = (shareResponse (p .0) (p .1) ≡ refused 42) × Refused ps
 
-three-refused : Refused parted
+three-refused : Refused undecided
 unfolding respond growth
 three-refused = (refl, (refl, (refl, tt)))
 
-one-refused : (i n : ℕ) (ps : List (ℕ × ℕ)) → Refused ps → OneOf i n ps → shareResponse i n ≡ refused 42
-unfolding OneOf
-one-refused i n [] all one = absurd one
-one-refused i n (p ∷ ps) all (inl e) = rw (e .0, e .1) (all .0)
-one-refused i n (p ∷ ps) all (inr one) = one-refused i n ps (all .1) one
+one-refused : (i n : ℕ) {ps : List (ℕ × ℕ)} → Refused ps → List·Memᴰ (i, n) ps → shareResponse i n ≡ refused 42
+one-refused i n all (List·Memᴰ·head e) = rw (ap (λ (p : ℕ × ℕ). p .0) e, ap (λ (p : ℕ × ℕ). p .1) e) (all .0)
+one-refused i n all (List·Memᴰ·tail later) = one-refused i n (all .1) later
 
 -- A pair that is refused with 42 is inside its ranges, and its ends round differently: it is one of the three.
-listed-one : (i n : ℕ) (ps : List (ℕ × ℕ)) → listed i n ps ≡ true → OneOf i n ps
-unfolding OneOf
+listed-one : (i n : ℕ) (ps : List (ℕ × ℕ)) → listed i n ps ≡ true → List·Memᴰ (i, n) ps
 listed-one i n [] e = absurd (false≢true e)
 listed-one i n (p ∷ ps) e = go (eqb i (p .0) && eqb n (p .1)) refl e (listed-one i n ps)
   where
-    go : (b : Bool) → (eqb i (p .0) && eqb n (p .1)) ≡ b → b || listed i n ps ≡ true → (listed i n ps ≡ true → OneOf i n ps) → OneOf i n (p ∷ ps)
-    go true is e rest = let both = and-eq-true-iff (eqb i (p .0)) (eqb n (p .1)) .0 is in inl (eqb-true _ _ (both .0), eqb-true _ _ (both .1))
-    go false is e rest = inr (rest e)
+    go : (b : Bool) → (eqb i (p .0) && eqb n (p .1)) ≡ b → b || listed i n ps ≡ true → (listed i n ps ≡ true → List·Memᴰ (i, n) ps) → List·Memᴰ (i, n) (p ∷ ps)
+    go true is e rest =
+        let both = and-eq-true-iff (eqb i (p .0)) (eqb n (p .1)) .0 is in
+        List·Memᴰ·head (λ j. (eqb-true i (p .0) (both .0) j, eqb-true n (p .1) (both .1) j))
+    go false is e rest = List·Memᴰ·tail (rest e)
 
-other : (a b : Bool) → not a ≡ true → a || b ≡ true → b ≡ true
-other true b differ e = absurd (false≢true differ)
-other false b differ e = e
-
-only : (i n : ℕ) → shareResponse i n ≡ refused 42 → OneOf i n parted
+only : (i n : ℕ) → shareResponse i n ≡ refused 42 → List·Memᴰ (i, n) undecided
 unfolding NoneHolds absent
 only i n e =
     let ranges = outside i 1 3_000 || outside n 2 30 in
     let alike = eqb (shareBy ceiling i n) (shareBy floor i n) in
     let later = behind 42 (case 41 ranges ∷ []) (case 42 (not alike) ∷ []) (shareBy floor i n ∷ []) refl e in
     let apart = front 42 (not alike) [] (shareBy floor i n ∷ []) refl (later .1) in
-    listed-one i n parted (other alike (listed i n parted) apart (pair-passes i n (both-inside i n (later .0 .0))))
+    listed-one i n undecided (rw (not-true alike apart) at (pair-passes i n (both-inside i n (later .0 .0))))
 
 pub all-pairs : AllPairs
-all-pairs i n = (only i n, one-refused i n parted three-refused)
+all-pairs i n = (only i n, one-refused i n three-refused)

@@ -3,8 +3,8 @@
 -- Assumes nothing.
 use Prim.Native.Nat.{ℕ, zero, suc}
 use mathlib.Core.Path.{_≡_}
-use mathlib.Core.Logic.{_⊎_, _↔_}
-use mathlib.Core.List.{List, [], _∷_}
+use mathlib.Core.Logic.{_↔_}
+use mathlib.Core.List.{List, [], _∷_, List·Memᴰ}
 use Rattle.fractions.specs.Fraction.{Fraction}
 use Rattle.fractions.specs.Rounding.{floor, ceiling}
 use Rattle.refusals.specs.Response.{refused}
@@ -13,17 +13,12 @@ use Rattle.amortization.specs.Share.{shareBy, exactShare}
 use Rattle.amortization.specs.Refusals.{shareResponse}
 
 -- 0.04 per cent over four years, 1.58 per cent over eight, 2.99 per cent over sixteen
-abbrev pub parted : List (ℕ × ℕ)
-parted = (4, 4) ∷ (158, 8) ∷ (299, 16) ∷ []
+abbrev pub undecided : List (ℕ × ℕ)
+undecided = (4, 4) ∷ (158, 8) ∷ (299, 16) ∷ []
 
--- a rate and a term are a pair of a list
-unfoldable pub OneOf : ℕ → ℕ → List (ℕ × ℕ) → Type 0
-OneOf i n [] = ⊥
-OneOf i n (p ∷ ps) = ((i ≡ p .0) × (n ≡ p .1)) ⊎ OneOf i n ps
-
--- of all rates and terms, these are refused with 42, and no others
+-- of all rates and terms, these are refused with 42, and no others: a pair is refused with it if and only if it is in the list
 abbrev pub AllPairs : Type 0
-AllPairs = (i n : ℕ) → (shareResponse i n ≡ refused 42) ↔ OneOf i n parted
+AllPairs = (i n : ℕ) → (shareResponse i n ≡ refused 42) ↔ List·Memᴰ (i, n) undecided
 
 -- the growth figures of n years, the last year first
 unfoldable pub figures : (Fraction → ℕ) → ℕ → ℕ → List ℕ

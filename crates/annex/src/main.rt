@@ -20,7 +20,7 @@ fn put_line(out: &mut [u8], at: usize, k: usize) -> usize
     text::put_number(out, upper, figures.upper, b'\n')
 }
 
-// Puts the whole page at the start of out, and answers where it ends.
+// Puts the whole page at the start of out, and returns where it ends.
 fn put_page(out: &mut [u8]) -> usize
     requires { ⌜ 14 + 63 * entries ≤ length (now out) ⌝ }
     ensures { λ r. ⌜ Written (now (out .entry)) 0 page (now (out .exit)) r ⌝ }

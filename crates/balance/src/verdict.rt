@@ -17,7 +17,7 @@ impl Verdict {
         match self {
             Self::Sufficient => true,
             Self::Insufficient => false,
-            Self::Undecided => true, // no open rung is jumped
+            Self::Undecided => true, // no open rung is skipped
         }
     }
 

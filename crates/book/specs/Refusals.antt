@@ -1,4 +1,4 @@
--- What the book's calls respond, and what they leave in the book. 01, "Sent back because of the book".
+-- What the book's calls respond, and what they leave in the book. 01, "Sent back because of the book" and "The book".
 -- Assumes nothing.
 use Prim.Native.Nat.{ℕ}
 use mathlib.Core.Bool.{Bool, true, false, not, _&&_}

@@ -13,11 +13,12 @@ n over d = record { num = n; den = d }
 abbrev pub plus : Fraction → Fraction → Fraction
 plus p q = (p .num * q .den + q .num * p .den) over (p .den * q .den)
 
--- p is not above q, and p is below q, where neither denominator is 0
+-- p is not above q, where neither denominator is 0
 infix 50 _≼_
 abbrev pub _≼_ : Fraction → Fraction → Type 0
 p ≼ q = p .num * q .den ≤ q .num * p .den
 
+-- p is below q, where neither denominator is 0
 infix 50 _≺_
 abbrev pub _≺_ : Fraction → Fraction → Type 0
 p ≺ q = p .num * q .den < q .num * p .den

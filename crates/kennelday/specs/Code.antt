@@ -7,7 +7,7 @@ use Rattle.refusals.specs.Response.{Response, refused, complete}
 -- what is returned: the refusal's number, or 0 where the call is complete
 abbrev pub code : Response → ℕ
 code (refused n) = n
-code (complete bytes) = 0
+code (complete values) = 0
 
 -- what stands in the array lent for the answer: the bytes of a complete response, or what was there
 abbrev pub handed : Response → List ℕ → List ℕ

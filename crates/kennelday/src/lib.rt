@@ -1,4 +1,4 @@
-// The calls for Rust and C. Each returns 0, or the number of the refusal, and then every lent byte is as it was.
+// The calls for Rust and C. Each returns 0, or the number of the refusal; a refused call leaves every lent byte as it was.
 ghost use mathlib.Core.Path.{_≡_};
 ghost use Rattle.refusals.specs.Response.{after};
 ghost use Rattle.sheet.specs.Refusals.{responseTo};

@@ -49,7 +49,7 @@ impl Layout {
         self.sheet_at(capacity) + 8 * e as usize
     }
 
-    // Whether bytes of this length are no book of this capacity.
+    // Whether bytes of this length cannot be a book of this capacity.
     pub fn wrong_size(self, size: usize, capacity: u64) -> bool
         requires { ⌜ Usable self ⌝ }
         ensures { λ r. ⌜ r ≡ wrongSize self size capacity ⌝ }

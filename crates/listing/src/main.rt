@@ -64,7 +64,7 @@ fn fill(block: &mut [u8]) -> Input
     }
 }
 
-// Writes the bytes, or says that it cannot, and answers whether it could.
+// Writes the bytes, or says that it cannot, and returns whether it could.
 fn write(bytes: &[u8]) -> bool {
     let written = io::write_all(STDOUT_FILENO, bytes);
     if !written {
@@ -92,7 +92,7 @@ fn listed_length(input: Input) -> usize
     input.length
 }
 
-// Reads a block and lists it, and answers whether more may follow.
+// Reads a block and lists it, and returns whether more may follow.
 fn list_block(block: &mut [u8], out: &mut [u8]) -> bool
     requires { ⌜ (length (now block) ≤ 12_288) × (108 * 512 ≤ length (now out)) ⌝ }
 {

@@ -9,7 +9,7 @@ ghost use Rattle.listing_text.specs.Listing.{piece as Listing·piece};
 use crate::line::put_line;
 use overlay::put;
 
-// Puts the header at the start of out, and answers where it ends.
+// Puts the header at the start of out, and returns where it ends.
 pub fn put_header(out: &mut [u8]) -> usize
     requires { ⌜ length header ≤ length (now out) ⌝ }
     ensures { λ r. ⌜ Written (now (out .entry)) 0 header (now (out .exit)) r ⌝ }
@@ -18,7 +18,7 @@ pub fn put_header(out: &mut [u8]) -> usize
     put(out, 0, b"line shape mm loss surface upto\n")
 }
 
-// Puts the lines of all sheets at the start of out, and answers where they end. What follows the last whole sheet has a line of its own.
+// Puts the lines of all sheets at the start of out, and returns where they end. What follows the last whole sheet has a line of its own.
 pub fn put_lines(out: &mut [u8], sheets: &[u8]) -> usize
     requires { ⌜ 108 * pieces (now sheets) ≤ length (now out) ⌝ }
     ensures { λ r. ⌜ Written (now (out .entry)) 0 (linesOf (now (sheets .entry))) (now (out .exit)) r ⌝ }

@@ -20,7 +20,7 @@ use sheet::unsigned;
 use text::put_decimal;
 use text::put_number;
 
-// Puts the line for a sheet from place at on, and answers where it ends. A line has no more than 108 bytes.
+// Puts the line for a sheet from place at on, and returns where it ends. A line has no more than 108 bytes.
 pub fn put_line(out: &mut [u8], at: usize, sheet: &[u8]) -> usize
     requires { ⌜ at + 108 ≤ length (now out) ⌝ }
     ensures { λ r. ⌜ Written (now (out .entry)) at (lineOf (now (sheet .entry))) (now (out .exit)) r ⌝ }
@@ -59,7 +59,7 @@ fn put_response(out: &mut [u8], at: usize, sheet: &[u8]) -> usize
     }
 }
 
-// Puts the word refused and the refusal's number, and answers where they end.
+// Puts the word refused and the refusal's number, and returns where they end.
 pub fn put_refusal(out: &mut [u8], at: usize, why: Refusal) -> usize
     requires { ⌜ at + 28 ≤ length (now out) ⌝ }
     ensures { λ r. ⌜ Written (now (out .entry)) at (responseText (refused (numberOf why))) (now (out .exit)) r ⌝ }

@@ -42,7 +42,7 @@ pub fn work_out(bytes: &[u8]) -> Outcome
     let outside = sheet.out_of_range();
     let unused = sheet.not_zero();
     let not_warmer = sheet.temperature <= sheet.ambient;
-    let beyond = sheet.aim_out_of_reach();
+    let invalid = sheet.invalid_aim();
     if unknown {
         return Outcome::Refused(Refusal::UnknownCode);
     }
@@ -55,8 +55,8 @@ pub fn work_out(bytes: &[u8]) -> Outcome
     if not_warmer {
         return Outcome::Refused(Refusal::NotWarmer);
     }
-    if beyond {
-        return Outcome::Refused(Refusal::AimOutOfReach);
+    if invalid {
+        return Outcome::Refused(Refusal::InvalidAim);
     }
     search_ladder(sheet)
 }

@@ -3,7 +3,7 @@ ghost use Prim.Native.Nat.{_+_, _≤_};
 ghost use lib.ListN.{length};
 ghost use Rattle.overlay.specs.Overlay.{Written};
 
-// Puts the bytes of piece from place at on, and answers where they end.
+// Puts the bytes of piece from place at on, and returns where they end.
 pub fn put(out: &mut [u8], at: usize, piece: &[u8]) -> usize
     requires { ⌜ at + length (now piece) ≤ length (now out) ⌝ }
     ensures { λ r. ⌜ Written (now (out .entry)) at (now (piece .entry)) (now (out .exit)) r ⌝ }

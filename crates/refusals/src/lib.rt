@@ -9,9 +9,9 @@ pub enum Refusal {
     UnknownCode,
     OutOfRange,
     NotZero,
-    // The pipe is not warmer than the air; the aim is none that insulation can reach.
+    // The pipe is not warmer than the air; a loss aim of 0, or a surface aim that is not between the air and the pipe.
     NotWarmer,
-    AimOutOfReach,
+    InvalidAim,
     // No thickness of the ladder is enough; the first that may be enough is not known to be.
     NoneSufficient,
     TooClose,
@@ -43,7 +43,7 @@ impl Refusal {
             Refusal::OutOfRange => 13,
             Refusal::NotZero => 14,
             Refusal::NotWarmer => 15,
-            Refusal::AimOutOfReach => 16,
+            Refusal::InvalidAim => 16,
             Refusal::NoneSufficient => 17,
             Refusal::TooClose => 18,
             Refusal::BookSize => 31,

@@ -1,4 +1,4 @@
--- The limits. 01, "The answer: 8 bytes".
+-- The limits. 01, "The answer: 8 bytes"; the codes of a service are in "The sheet: 24 bytes".
 -- Assumes nothing.
 use Prim.Native.Nat.{ℕ, _+_, _*_}
 use mathlib.Core.Bool.{true, false, cond}

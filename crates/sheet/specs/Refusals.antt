@@ -6,7 +6,7 @@ use mathlib.Core.List.{List, [], _∷_, _++_}
 use lib.Dec.{leb, ltb, eqb}
 use lib.ListN.{length}
 use Rattle.quadrature.specs.Ladder.{rungs}
-use Rattle.refusals.specs.declared.Refusal.the-variants.{SheetLength, UnknownCode, OutOfRange, NotZero, NotWarmer, AimOutOfReach, NoneSufficient, TooClose}
+use Rattle.refusals.specs.declared.Refusal.the-variants.{SheetLength, UnknownCode, OutOfRange, NotZero, NotWarmer, InvalidAim, NoneSufficient, TooClose}
 use Rattle.refusals.specs.Numbers.{numberOf}
 use Rattle.refusals.specs.Cases.{Case, case}
 use Rattle.refusals.specs.Response.{Response, respond}
@@ -40,7 +40,7 @@ fieldCases bytes =
     -- "15: t not above ta."
     case (numberOf NotWarmer) (leb (s .temperature) (s .ambient)) ∷
     -- "16: goal 2 with aim 0; goal 3 unless ta < aim < t."
-    case (numberOf AimOutOfReach) (aimRefused s (goalOf s)) ∷
+    case (numberOf InvalidAim) (aimRefused s (goalOf s)) ∷
     []
 
 -- the cases that try the ladder

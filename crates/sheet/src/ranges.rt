@@ -57,8 +57,8 @@ impl Sheet {
         offset_binary(self.aim)
     }
 
-    // Can no insulation reach the aim?
-    pub fn aim_out_of_reach(self) -> bool
+    // Is the aim a loss of 0, or a surface temperature that is not between those of the air and the pipe?
+    pub fn invalid_aim(self) -> bool
         ensures { λ r. ⌜ r ≡ aimRefused self (goalOf self) ⌝ }
     {
         if self.goal == 1 {

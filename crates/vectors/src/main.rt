@@ -35,7 +35,7 @@ fn least(a: usize, b: usize) -> usize
     if a < b { a } else { b }
 }
 
-// Puts the bytes that are written in hexadecimal at the start of out, and answers how many there are.
+// Puts the bytes that are written in hexadecimal at the start of out, and returns how many there are.
 fn put_bytes(out: &mut [u8], digits: &[u8]) -> usize
     ensures { λ r. ⌜ Counts r (now (out .exit)) ⌝ }
 {

@@ -46,16 +46,16 @@ module _ (c : lts.Else1 (outside-reads.Asked, outside-reads.Learnt, share-by-rea
   admitted = both-inside rate years not-outside
 
 share-by-requires : tie.Need-share-by-requires
-share-by-requires c κs = let h = admitted c in ((h .some, h .rate), (h .years, h .term))
+share-by-requires c κs = let h = admitted c in ((h .rate-least, h .rate-most), (h .term-least, h .term-most))
 
 share-by-requires-2 : tie.Need-share-by-requires-2
-share-by-requires-2 c κs = let h = admitted (c .before) in ((h .some, h .rate), (h .years, h .term))
+share-by-requires-2 c κs = let h = admitted (c .before) in ((h .rate-least, h .rate-most), (h .term-least, h .term-most))
 
 cast-t11 : tie.Need-cast-t11
 cast-t11 c =
     let e = c .before .before .before in
     let h = admitted e in
-    record { fits = rw (c .before .share-by2 .ensures) (omega (arith, share-most (rate e) (years e) (h .some) (h .years) (h .rate))) }
+    record { fits = rw (c .before .share-by2 .ensures) (omega (arith, share-most (rate e) (years e) (h .rate-least) (h .term-least) (h .rate-most))) }
 
 returns-2 : tie.Need-returns-2
 unfolding respond

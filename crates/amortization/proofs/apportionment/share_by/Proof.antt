@@ -6,7 +6,7 @@ use Prim.Native.Nat.{ℕ, _+_, _*_, _<_}
 use native.Mathlib.Omega.{arith}
 use Rattle.fractions.specs.Fraction.{_over_}
 use Rattle.fractions.specs.Rounding.{nearest}
-use Rattle.amortization.specs.Growth.{start}
+use Rattle.amortization.specs.Growth.{principal}
 use Rattle.amortization.specs.Share.{share}
 use Rattle.amortization.proofs.Growth.{year-fits}
 use Rattle.amortization.proofs.Enclosure.{grown}
@@ -22,7 +22,7 @@ growth-requires c κs = search needs
 
 -- the growth is above 10⁹, and its products fit
 module _ (c : lts.After-growth (growth-reads.Asked, growth-reads.Learnt, nearest-reads.Asked, nearest-reads.Learnt) reads.Pre reads.Post) where
-  above : start < c .growth .result
+  above : principal < c .growth .result
   above =
       let a = c .before .args in
       rw (c .growth .ensures) (grown (a .rounding) (a .rate) (a .years) (c .before .pre .0 .0) (omega (arith, c .before .pre .1 .0)))
@@ -42,7 +42,7 @@ nearest-requires : tie.Need-nearest-requires
 nearest-requires c κs = (omega (arith, above c), omega (arith, products c))
 
 returns : tie.Need-returns
-returns c = c .nearest .ensures ∙ ap (λ (g : ℕ). nearest (share (c .before .before .args .rate) (g over start))) (c .before .growth .ensures)
+returns c = c .nearest .ensures ∙ ap (λ (g : ℕ). nearest (share (c .before .before .args .rate) (g over principal))) (c .before .growth .ensures)
 
 pub share-by-spec : {M : Type 1} → statement M
 share-by-spec = tie.close (tie.spec growth-requires mul-nearest sub-nearest nearest-requires returns)

@@ -21,7 +21,7 @@ use Rattle.outcome.proofs.work.work_out.Statement.{statement}
 use Rattle.outcome.proofs.work.work_out.Tie as tie
 
 -- the sheet's bytes, and what each test tells of them
-module _ (c : tie.After-aim-out-of-reach) where
+module _ (c : tie.After-invalid-aim) where
   abbrev sheet-bytes : List ℕ
   sheet-bytes = now (c .before .before .before .before .before .before .before .before .args .bytes)
 
@@ -43,11 +43,11 @@ module _ (c : tie.After-aim-out-of-reach) where
   not-warmer : let s = decoded sheet-bytes in let got = c .before .before .before .before .before .decode .result in leb (s .temperature) (s .ambient) ≡ leb (got .temperature) (got .ambient)
   not-warmer = rw is
 
-  beyond : aimRefused (decoded sheet-bytes) (goalOf (decoded sheet-bytes)) ≡ c .aim-out-of-reach .result
-  beyond = sym (c .aim-out-of-reach .ensures ∙ ap (λ (s : Sheet). aimRefused s (goalOf s)) is)
+  invalid : aimRefused (decoded sheet-bytes) (goalOf (decoded sheet-bytes)) ≡ c .invalid-aim .result
+  invalid = sym (c .invalid-aim .ensures ∙ ap (λ (s : Sheet). aimRefused s (goalOf s)) is)
 
 -- the cases before the next one fail
-none-11 : (c : tie.After-aim-out-of-reach) → NoneHolds (take 1 (fieldCases (sheet-bytes c)))
+none-11 : (c : tie.After-invalid-aim) → NoneHolds (take 1 (fieldCases (sheet-bytes c)))
 unfolding NoneHolds
 none-11 c = (length-24 c, tt)
 
@@ -64,7 +64,7 @@ none-15 : (c : tie.Else5) → NoneHolds (take 5 (fieldCases (sheet-bytes (c .bef
 none-15 c = none-more 4 (fieldCases (sheet-bytes (c .before .before .before .before))) (none-14 (c .before)) (not-warmer (c .before .before .before .before) ∙ c .if5 .left)
 
 none-16 : (c : tie.Else6) → NoneHolds (take 6 (fieldCases (sheet-bytes (c .before .before .before .before .before))))
-none-16 c = none-more 5 (fieldCases (sheet-bytes (c .before .before .before .before .before))) (none-15 (c .before)) (beyond (c .before .before .before .before .before) ∙ c .if6 .left)
+none-16 c = none-more 5 (fieldCases (sheet-bytes (c .before .before .before .before .before))) (none-15 (c .before)) (invalid (c .before .before .before .before .before) ∙ c .if6 .left)
 
 returns : tie.Need-returns
 unfolding NoneHolds
@@ -84,8 +84,8 @@ out-of-range-requires c κs = search needs
 not-zero-requires : tie.Need-not-zero-requires
 not-zero-requires c κs = search needs
 
-aim-out-of-reach-requires : tie.Need-aim-out-of-reach-requires
-aim-out-of-reach-requires c κs = search needs
+invalid-aim-requires : tie.Need-invalid-aim-requires
+invalid-aim-requires c κs = search needs
 
 returns-2 : tie.Need-returns-2
 returns-2 c =
@@ -110,7 +110,7 @@ returns-5 c =
 returns-6 : tie.Need-returns-6
 returns-6 c =
     let b = sheet-bytes (c .before .before .before .before .before) in
-    sym (first-at 5 (cases b) (answer b) (none-15 (c .before)) (beyond (c .before .before .before .before .before) ∙ c .if6 .taken))
+    sym (first-at 5 (cases b) (answer b) (none-15 (c .before)) (invalid (c .before .before .before .before .before) ∙ c .if6 .taken))
 
 search-ladder-requires : tie.Need-search-ladder-requires
 search-ladder-requires c κs = rw (is (c .before .before .before .before .before)) (admitted (sheet-bytes (c .before .before .before .before .before)) (none-16 c))
@@ -130,7 +130,7 @@ work-out-spec =
     code-unknown-requires
     out-of-range-requires
     not-zero-requires
-    aim-out-of-reach-requires
+    invalid-aim-requires
     returns-2
     returns-3
     returns-4

@@ -1,9 +1,9 @@
--- `Sheet::aim_out_of_reach` meets its contract.
+-- `Sheet::invalid_aim` meets its contract.
 -- Assumes nothing.
 use borrow.Author.Tests.{eq-eqb, ne-eqb}
 use borrow.Author.Needs.{needs}
-use Rattle.sheet.proofs.fields.Sheet.aim_out_of_reach.Statement.{statement}
-use Rattle.sheet.proofs.fields.Sheet.aim_out_of_reach.Tie as tie
+use Rattle.sheet.proofs.fields.Sheet.invalid_aim.Statement.{statement}
+use Rattle.sheet.proofs.fields.Sheet.invalid_aim.Tie as tie
 
 returns : tie.Need-returns
 returns c = rw (eq-eqb (c .before .before .args .self .goal) 1 (c .if1 .taken))
@@ -21,5 +21,5 @@ returns-3 c =
     let goal = c .before .before .before .before .before .before .before .args .self .goal in
     rw (ne-eqb goal 1 (c .before .before .before .before .before .if1 .left), ne-eqb goal 2 (c .before .before .before .if2 .left), c .before .before .surface-aim .ensures)
 
-pub aim-out-of-reach-spec : {M : Type 1} → statement M
-aim-out-of-reach-spec = tie.close (tie.spec returns returns-2 surface-aim-requires returns-3)
+pub invalid-aim-spec : {M : Type 1} → statement M
+invalid-aim-spec = tie.close (tie.spec returns returns-2 surface-aim-requires returns-3)
