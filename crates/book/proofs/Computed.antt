@@ -9,10 +9,10 @@ use Rattle.balance.specs.Provided.{insulation, film, insulationBounds, filmBoun
 use Rattle.balance.specs.Required.{requirement, enclosing}
 use Rattle.balance.specs.Verdict.{firstNotInsufficient}
 use Rattle.refusals.specs.Response.{respond}
-use Rattle.sheet.specs.Bytes.{bigEndian, bytesOf}
+use Rattle.big_endian.specs.Bytes.{bigEndian, bytesOf}
 use Rattle.sheet.specs.Sheet.{decoded}
 use Rattle.sheet.specs.Ranges.{anyOutside}
-use Rattle.sheet.specs.Limits.{highestNotAbove, lossLimit}
+use Rattle.limits.specs.Limits.{highestNotAbove, lossLimit}
 use Rattle.sheet.specs.Answer.{encoded, lossCheck, surfaceCheck, surfaceBound, answerOf}
 use Rattle.book.specs.Book.{newBook, withSlots, withCount}
 use Rattle.book.specs.Refusals.{sameBytes}

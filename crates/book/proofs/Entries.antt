@@ -9,7 +9,7 @@ use lib.ListN.{length, replicate, length-replicate}
 use Rattle.overlay.specs.Overlay.{part, overlay}
 use Rattle.overlay.proofs.Parts.{length-overlay, part-at, part-before, part-after}
 use Rattle.sheet.specs.declared.encoding.Answer.{Answer}
-use Rattle.sheet.specs.Bytes.{bytesOf}
+use Rattle.big_endian.specs.Bytes.{bytesOf}
 use Rattle.sheet.specs.Answer.{encoded, answer}
 use Rattle.layout.specs.declared.places.Layout.{Layout}
 use Rattle.layout.specs.Layout.{answerSize, countAt, header, sheetAt, answerAt, bytesFor}
@@ -17,7 +17,7 @@ use Rattle.layout.specs.Sizes.{capacity, count}
 use Rattle.book.specs.Book.{storedSheet, storedAnswer, newBook, withSlots, withCount, withEntry}
 use Rattle.layout.proofs.Soundness.{Sound}
 use Rattle.layout.specs.Usable.{Usable}
-use Rattle.layout.proofs.Numerals.{same-number, length-bytes, number-put, number-zeros}
+use Rattle.big_endian.proofs.Numerals.{same-number, length-bytes, number-put, number-zeros}
 
 pub length-encoded : (a : Answer) → length (encoded a) ≡ answerSize
 unfolding encoded bytesOf

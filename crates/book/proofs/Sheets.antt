@@ -16,8 +16,8 @@ use Rattle.balance.proofs.Search.{first-within, misses-before, first-not-insuff
 use Rattle.balance.proofs.Judgement.{MeetsOn, MissesOn, meets-stays, sound}
 use Rattle.sheet.specs.declared.fields.Sheet.{Sheet}
 use Rattle.sheet.specs.declared.encoding.Answer.{Answer}
-use Rattle.layout.proofs.Numerals.{number-bytes}
-use Rattle.sheet.specs.Bytes.{bigEndian, bytesOf, offsetBinary}
+use Rattle.big_endian.proofs.Numerals.{number-bytes}
+use Rattle.big_endian.specs.Bytes.{bigEndian, bytesOf, offsetBinary}
 use Rattle.sheet.specs.Sheet.{decoded, difference, goalOf}
 use Rattle.sheet.specs.Search.{requirementOf, verdicts, chosen}
 use Rattle.sheet.specs.Answer.{encoded, surfaceBound, answerOf, answer}

@@ -4,7 +4,7 @@ use Prim.Native.Nat.{ℕ, _+_}
 use mathlib.Core.List.{List}
 use lib.ListN.{replicate}
 use Rattle.overlay.specs.Overlay.{part, overlay}
-use Rattle.sheet.specs.Bytes.{bytesOf}
+use Rattle.big_endian.specs.Bytes.{bytesOf}
 use Rattle.layout.specs.declared.places.Layout.{Layout}
 use Rattle.layout.specs.Sizes.{capacity, count}
 use Rattle.layout.specs.Layout.{answerSize, countAt, sheetAt, answerAt, bytesFor}

@@ -15,7 +15,7 @@ use Rattle.balance.specs.Line.{shapeOf}
 use Rattle.balance.specs.Provided.{provided}
 use Rattle.balance.specs.Exact.{providedExactly, Meets, Misses}
 use Rattle.sheet.specs.declared.fields.Sheet.{Sheet}
-use Rattle.sheet.specs.Bytes.{bigEndian, offsetBinary}
+use Rattle.big_endian.specs.Bytes.{bigEndian, offsetBinary}
 use Rattle.sheet.specs.Sheet.{decoded, goalOf}
 use Rattle.sheet.specs.Search.{requirementOf, verdicts}
 use Rattle.sheet.specs.Answer.{shapeCode, checkCode, lossCode, lossCheck, surfaceCheck, surfaceBound, answer}

@@ -5,8 +5,8 @@ ghost use lib.ListN.{length, replicate};
 ghost use Rattle.layout.specs.Layout.{standard};
 ghost use Rattle.book.specs.Refusals.{making, made};
 ghost use Rattle.refusals.specs.Completion.{responseWith};
+use big_endian::put_number;
 use layout::Layout;
-use layout::put_number;
 use refusals::Completion;
 use refusals::Refusal;
 

@@ -1,4 +1,3 @@
-pub mod Numerals
 pub mod Soundness
 pub mod Examined
 pub mod Standard

@@ -2,7 +2,7 @@
 -- Assumes nothing.
 use Prim.Native.Nat.{ℕ}
 use mathlib.Core.List.{List}
-use Rattle.sheet.specs.Bytes.{bigEndian}
+use Rattle.big_endian.specs.Bytes.{bigEndian}
 use Rattle.layout.specs.declared.places.Layout.{Layout}
 use Rattle.layout.specs.Layout.{countAt}
 

@@ -6,8 +6,8 @@ ghost use Rattle.layout.specs.Sizes.{capacity as Sizes·capacity, count 
 ghost use Rattle.layout.specs.Refusals.{bookCases};
 ghost use Rattle.layout.specs.Examination.{examined};
 ghost use Rattle.layout.specs.Usable.{Usable};
-use crate::numbers::number;
 use crate::places::Layout;
+use big_endian::number;
 use refusals::Refusal;
 
 pub struct Sizes {

@@ -7,7 +7,7 @@ use lib.Dec.{ltb, eqb}
 use lib.ListN.{length, getD}
 use Rattle.text.specs.Text.{ascii, decimal}
 use Rattle.refusals.specs.Response.{Response, refused, complete}
-use Rattle.sheet.specs.Bytes.{bigEndian, offsetBinary, zeroDegrees}
+use Rattle.big_endian.specs.Bytes.{bigEndian, offsetBinary, zeroDegrees}
 use Rattle.sheet.specs.Sheet.{lineNumber}
 use Rattle.sheet.specs.Refusals.{responseTo}
 

@@ -11,12 +11,12 @@ ghost use Rattle.listing_text.specs.Line.{spaced, answerText, responseTe
 use crate::words::put_check;
 use crate::words::put_degrees;
 use crate::words::put_shape;
+use big_endian::signed;
+use big_endian::unsigned;
 use outcome::Outcome;
 use outcome::work_out;
 use overlay::put;
 use refusals::Refusal;
-use sheet::signed;
-use sheet::unsigned;
 use text::put_decimal;
 use text::put_number;
 

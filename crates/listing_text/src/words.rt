@@ -3,8 +3,8 @@ ghost use Prim.Native.Nat.{_+_, _≤_};
 ghost use lib.ListN.{length};
 ghost use Rattle.overlay.specs.Overlay.{Written};
 ghost use Rattle.listing_text.specs.Line.{shapeWord, checkWord, tenths, degrees, spaced};
+use big_endian::ZERO;
 use overlay::put;
-use sheet::ZERO;
 use text::put_decimal;
 
 // The word for a shape, and a space.

@@ -13,10 +13,10 @@ use Rattle.balance.specs.declared.goal.Goal.the-variants.{Loss, Surface}
 use Rattle.balance.specs.declared.line.Shape.the-variants.{Cylinder as Pipe}
 use Rattle.balance.specs.Provided.{filmBounds, insulationBounds, provided}
 use Rattle.refusals.specs.Response.{refused, complete}
-use Rattle.sheet.specs.Bytes.{bytesOf, zeroDegrees, offsetBinary}
+use Rattle.big_endian.specs.Bytes.{bytesOf, zeroDegrees, offsetBinary}
 use Rattle.sheet.specs.Sheet.{decoded, difference, goalOf}
 use Rattle.sheet.specs.Search.{requiredOf, chosen}
-use Rattle.sheet.specs.Limits.{lossLimit, surfaceLimit}
+use Rattle.limits.specs.Limits.{lossLimit, surfaceLimit}
 use Rattle.sheet.specs.Answer.{surfaceBound}
 use Rattle.sheet.specs.Refusals.{responseTo}
 use Rattle.sheet.specs.Worked.{sheetF, sheetG}

@@ -8,10 +8,10 @@ use balance::Goal;
 use balance::Verdict;
 use balance::judge;
 use fractions::Bounds;
+use limits::loss_limit;
+use limits::surface_limit;
 use sheet::LossCheck;
 use sheet::Sheet;
-use sheet::loss_limit;
-use sheet::surface_limit;
 
 // The loss check of a thickness that provides `provided`.
 pub(crate) fn loss_check(sheet: Sheet, provided: Bounds) -> LossCheck

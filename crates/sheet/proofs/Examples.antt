@@ -16,10 +16,10 @@ use Rattle.roots.proofs.Roots.{floor-root-is, ceiling-root-is}
 use Rattle.balance.specs.Provided.{insulation, film, insulationBounds, filmBounds, provided}
 use Rattle.balance.specs.Required.{requirement, enclosing}
 use Rattle.balance.specs.Verdict.{firstNotInsufficient}
-use Rattle.sheet.specs.Bytes.{bigEndian, bytesOf}
+use Rattle.big_endian.specs.Bytes.{bigEndian, bytesOf}
 use Rattle.sheet.specs.Sheet.{decoded}
 use Rattle.sheet.specs.Ranges.{anyOutside}
-use Rattle.sheet.specs.Limits.{highestNotAbove, lossLimit}
+use Rattle.limits.specs.Limits.{highestNotAbove, lossLimit}
 use Rattle.sheet.specs.Answer.{encoded, lossCheck, surfaceCheck, surfaceBound, answerOf}
 use Rattle.refusals.specs.Response.{complete, respond}
 use Rattle.sheet.specs.Refusals.{responseTo}
@@ -43,7 +43,7 @@ pub record Examples : Type 0 where
   pub economy-320 : Gives (economySheet 320) 30
   -- a pipe for a loss; a pipe in air at −10.0 °C for a surface at −2.0 °C, with no limit printed
   pub loss : Answers (sheetOf 2 1 1_080 3_500 250 450 1_163 1_500) (0 ∷ 1 ∷ 0 ∷ 70 ∷ 0 ∷ 0 ∷ 1 ∷ 112 ∷ [])
-  pub surface : Answers (sheetOf 3 2 4_260 4_500 65_436 380 1_000 65_516) (0 ∷ 1 ∷ 0 ∷ 170 ∷ 3 ∷ 0 ∷ 255 ∷ 233 ∷ [])
+  pub surface : Answers (sheetOf 3 2 4_260 4_500 65_436 60 1_000 65_516) (0 ∷ 1 ∷ 0 ∷ 40 ∷ 3 ∷ 0 ∷ 255 ∷ 219 ∷ [])
   -- a bare pipe, with both limits exceeded, and the bound held to t
   pub bare : Answers (sheetOf 2 1 1_000 6_000 0 333 1_001 60_061) (0 ∷ 1 ∷ 0 ∷ 0 ∷ 1 ∷ 1 ∷ 23 ∷ 112 ∷ [])
   -- too close to the loss limit; too close to the surface limit

@@ -3,6 +3,4 @@ pub mod Ladder
 pub mod Admitted
 pub mod Offsets
 pub mod Worked
-pub mod TwosComplement
-mod Rows
 pub mod Examples

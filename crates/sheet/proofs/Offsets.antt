@@ -6,7 +6,7 @@ use mathlib.Core.List.{List, [], _∷_, map}
 use Prim.Native.Nat.{ℕ, _+_, _-_}
 use lib.Dec.{eqb}
 use lib.ListN.{getD}
-use Rattle.sheet.specs.Bytes.{bigEndian, offsetBinary, zeroDegrees}
+use Rattle.big_endian.specs.Bytes.{bigEndian, offsetBinary, zeroDegrees}
 use Rattle.sheet.specs.Sheet.{decoded}
 use Rattle.sheet.specs.Ranges.{Field, field, codes, economyFields, ranges, zeroOnly, mustBeZero}
 

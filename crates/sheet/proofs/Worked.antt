@@ -15,9 +15,9 @@ use Rattle.balance.specs.Provided.{insulation, film, insulationBounds, filmBoun
 use Rattle.balance.specs.Required.{requirement, enclosing}
 use Rattle.balance.specs.Verdict.{firstNotInsufficient}
 use Rattle.sheet.specs.declared.fields.Sheet.{Sheet}
-use Rattle.sheet.specs.Bytes.{bigEndian, bytesOf}
+use Rattle.big_endian.specs.Bytes.{bigEndian, bytesOf}
 use Rattle.sheet.specs.Sheet.{decoded, surfaceAim, goalOf}
-use Rattle.sheet.specs.Limits.{highestNotAbove, lossLimit}
+use Rattle.limits.specs.Limits.{highestNotAbove, lossLimit}
 use Rattle.sheet.specs.Answer.{encoded, lossCheck, surfaceCheck, surfaceBound, answerOf, answer}
 use Rattle.sheet.specs.Refusals.{aimRefused, fieldCases, cases, responseTo}
 use Rattle.sheet.specs.Ranges.{anyOutside}

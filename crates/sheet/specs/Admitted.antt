@@ -3,7 +3,7 @@
 use Prim.Native.Nat.{_+_, _≤_, _<_}
 use Rattle.balance.specs.Ranges.{LineInRange, GoalInRange}
 use Rattle.sheet.specs.declared.fields.Sheet.{Sheet}
-use Rattle.sheet.specs.Bytes.{zeroDegrees}
+use Rattle.big_endian.specs.Bytes.{zeroDegrees}
 use Rattle.sheet.specs.Sheet.{difference, goalOf}
 
 pub record Admitted (s : Sheet) : Type 0 where

@@ -20,10 +20,10 @@ use Rattle.sheet.specs.declared.fields.Sheet.{Sheet}
 use Rattle.sheet.specs.declared.encoding.Answer.{Answer}
 use Rattle.sheet.specs.declared.encoding.LossCheck.{LossCheck}
 use Rattle.sheet.specs.declared.encoding.LossCheck.the-variants.{Judged, NonePrinted}
-use Rattle.sheet.specs.Bytes.{bytesOf, offsetBinary}
+use Rattle.big_endian.specs.Bytes.{bytesOf, offsetBinary}
 use Rattle.sheet.specs.Sheet.{decoded, difference}
 use Rattle.sheet.specs.Search.{requiredOf, chosen}
-use Rattle.sheet.specs.Limits.{lossLimit, surfaceLimit}
+use Rattle.limits.specs.Limits.{lossLimit, surfaceLimit}
 
 -- "Byte 1: 1 cylinder, 2 flat."
 abbrev pub shapeCode : Shape → ℕ

@@ -1,8 +1,6 @@
-pub mod Bytes
 pub mod Sheet
 pub mod Ranges
 pub mod Search
-pub mod Limits
 pub mod Answer
 pub mod Refusals
 pub mod Admitted

@@ -6,7 +6,7 @@ use mathlib.Core.List.{List, [], _∷_, map}
 use lib.Dec.{eqb}
 use Rattle.refusals.specs.Range.{outside as Range·outside}
 use Rattle.sheet.specs.declared.fields.Sheet.{Sheet}
-use Rattle.sheet.specs.Bytes.{zeroDegrees}
+use Rattle.big_endian.specs.Bytes.{zeroDegrees}
 
 -- a field: its offset, its value and its range
 pub record Field : Type 0 where

@@ -8,7 +8,7 @@ use lib.ListN.{getD}
 use Rattle.balance.specs.declared.goal.Goal.{Goal}
 use Rattle.balance.specs.declared.goal.Goal.the-variants.{Economy, Loss, Surface}
 use Rattle.sheet.specs.declared.fields.Sheet.{Sheet}
-use Rattle.sheet.specs.Bytes.{bigEndian, offsetBinary}
+use Rattle.big_endian.specs.Bytes.{bigEndian, offsetBinary}
 
 -- "2–3": the "line number", which no other figure depends on
 abbrev pub lineNumber : List ℕ → ℕ

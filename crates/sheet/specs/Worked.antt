@@ -7,10 +7,10 @@ use lib.ListN.{take}
 use Rattle.fractions.specs.declared.Bounds.{Bounds}
 use Rattle.quadrature.specs.Figures.{lowerStep, upperStep, lowerLog, upperLog}
 use Rattle.balance.specs.Provided.{provided}
-use Rattle.sheet.specs.Bytes.{bigEndian, bytesOf, zeroDegrees}
+use Rattle.big_endian.specs.Bytes.{bigEndian, bytesOf, zeroDegrees}
 use Rattle.sheet.specs.Sheet.{decoded, surfaceAim, goalOf}
 use Rattle.sheet.specs.Search.{requiredOf}
-use Rattle.sheet.specs.Limits.{lossLimit, surfaceLimit}
+use Rattle.limits.specs.Limits.{lossLimit, surfaceLimit}
 use Rattle.sheet.specs.Answer.{answer}
 use Rattle.sheet.specs.Refusals.{fieldCases, responseTo}
 use Rattle.refusals.specs.Cases.{NoneHolds}

@@ -1,11 +1,11 @@
 // An answer, and its eight bytes.
 ghost use mathlib.Core.Path.{_≡_};
 ghost use Prim.Native.Nat.{_/_, _%_, _^_};
-ghost use Rattle.sheet.specs.Bytes.{offsetBinary};
+ghost use Rattle.big_endian.specs.Bytes.{offsetBinary};
 ghost use Rattle.sheet.specs.Answer.{shapeCode, checkCode, lossCode, encoded};
-use crate::fields::offset_binary;
 use balance::Shape;
 use balance::Verdict;
+use big_endian::offset_binary;
 use quadrature::Thickness;
 
 pub enum LossCheck {

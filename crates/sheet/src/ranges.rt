@@ -4,8 +4,8 @@ ghost use Rattle.sheet.specs.Sheet.{surfaceAim, goalOf};
 ghost use Rattle.sheet.specs.Ranges.{anyOutside, codes, ranges, economyFields, mustBeZero};
 ghost use Rattle.sheet.specs.Refusals.{aimRefused};
 use crate::Sheet;
-use crate::fields::ZERO;
-use crate::fields::offset_binary;
+use big_endian::ZERO;
+use big_endian::offset_binary;
 use refusals::outside;
 
 impl Sheet {

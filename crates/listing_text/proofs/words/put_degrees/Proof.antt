@@ -3,7 +3,7 @@
 use native.Mathlib.Omega.{arith}
 use borrow.Author.Tests.{lt-ltb, le-ltb}
 use Rattle.overlay.proofs.Overlay.{then}
-use Rattle.sheet.specs.Bytes.{zeroDegrees}
+use Rattle.big_endian.specs.Bytes.{zeroDegrees}
 use Rattle.listing_text.specs.Line.{degrees}
 use borrow.Author.Needs.{needs}
 use Rattle.listing_text.proofs.words.put_degrees.Statement.{statement}

@@ -7,7 +7,7 @@ use Rattle.balance.specs.declared.goal.Goal.the-variants.{Loss}
 use Rattle.balance.specs.Verdict.{judged}
 use Rattle.sheet.specs.declared.encoding.LossCheck.the-variants.{Judged}
 use Rattle.sheet.specs.Search.{requiredOf}
-use Rattle.sheet.specs.Limits.{lossLimit}
+use Rattle.limits.specs.Limits.{lossLimit}
 use Rattle.sheet.specs.Answer.{lossCheck}
 use borrow.Author.Needs.{needs}
 use Rattle.outcome.proofs.checks.loss_check.Statement.{statement}

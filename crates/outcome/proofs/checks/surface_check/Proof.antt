@@ -8,9 +8,9 @@ use lib.Dec.{leb}
 use borrow.Author.Tests.{le-leb, lt-leb, leb-true}
 use Rattle.balance.specs.declared.goal.Goal.the-variants.{Surface}
 use Rattle.balance.specs.Verdict.{judged}
-use Rattle.sheet.specs.Bytes.{zeroDegrees}
+use Rattle.big_endian.specs.Bytes.{zeroDegrees}
 use Rattle.sheet.specs.Search.{requiredOf}
-use Rattle.sheet.specs.Limits.{surfaceLimit}
+use Rattle.limits.specs.Limits.{surfaceLimit}
 use Rattle.sheet.specs.Answer.{surfaceCheck}
 use borrow.Author.Needs.{needs}
 use Rattle.outcome.proofs.checks.surface_check.Statement.{statement}

@@ -1,6 +1,6 @@
 -- `Answer::encode` meets its contract.
 -- Assumes nothing.
-use Rattle.sheet.specs.Bytes.{bytesOf}
+use Rattle.big_endian.specs.Bytes.{bytesOf}
 use Rattle.sheet.specs.Answer.{encoded}
 use borrow.Author.Needs.{needs}
 use Rattle.sheet.proofs.encoding.Answer.encode.Statement.{statement}

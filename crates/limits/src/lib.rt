@@ -1,0 +1,56 @@
+// The limits of heat loss and of surface temperature.
+ghost use mathlib.Core.Path.{_≡_};
+ghost use Prim.Native.Nat.{_+_, _≤_, _<_};
+ghost use lib.ListN.{getD};
+ghost use Rattle.big_endian.specs.Bytes.{zeroDegrees};
+ghost use Rattle.limits.specs.Limits.{table, unprinted, column, lossLimit, surfaceLimit};
+use big_endian::ZERO;
+
+// The limits in W/m² at 50 °C, 100 °C and so on to 650 °C, year-round and seasonal; 0 where none is printed.
+const LIMITS: [[u64; 2]; 13] = [
+    [58, 116],
+    [93, 163],
+    [116, 203],
+    [140, 244],
+    [163, 273],
+    [186, 296],
+    [209, 308],
+    [227, 314],
+    [244, 0],
+    [262, 0],
+    [279, 0],
+    [296, 0],
+    [314, 0],
+];
+
+// The limit of heat loss in 0.1 W/m² for a service and a pipe's temperature, counted from −3,276.8 °C, or 0 where none is printed.
+pub fn loss_limit(service: u64, temperature: u64) -> u64
+    requires { ⌜ (1 ≤ service) × (service ≤ 2) × (temperature ≤ zeroDegrees + 6_500) ⌝ }
+    ensures { λ r. ⌜ r ≡ lossLimit service temperature ⌝ }
+{
+    let first = ZERO + 500;
+    if temperature < first {
+        return 0;
+    }
+    10 * printed((temperature - first) / 500, service)
+}
+
+// The limit that is printed in a row, the first being row 0, for a service.
+fn printed(row: u64, service: u64) -> u64
+    requires { ⌜ (row < 13) × (1 ≤ service) × (service ≤ 2) ⌝ }
+    ensures { λ r. ⌜ (r ≡ column service (getD table row unprinted)) × (r ≤ 314) ⌝ }
+{
+    LIMITS[row as usize][(service - 1) as usize]
+}
+
+// The limit of the surface's temperature where the air has the temperature ambient, both counted from −3,276.8 °C.
+pub fn surface_limit(ambient: u64) -> u64
+    requires { ⌜ ambient ≤ 65_535 ⌝ }
+    ensures { λ r. ⌜ r ≡ surfaceLimit ambient ⌝ }
+{
+    if ambient <= ZERO + 270 {
+        ZERO + 500
+    } else {
+        ambient + 250
+    }
+}
