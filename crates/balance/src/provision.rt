@@ -36,7 +36,7 @@ impl Provision {
     }
 
     // What a thickness provides, rounded down and rounded up.
-    pub fn at(self, k: Thickness) -> Bounds
+    pub(crate) fn at(self, k: Thickness) -> Bounds
         requires { ⌜ LineInRange (self .line) × (self ≡ provision (self .line)) × (k .0 ≤ 300) ⌝ }
         ensures { λ r. ⌜ r ≡ provided (self .line) (k .0) ⌝ }
     {

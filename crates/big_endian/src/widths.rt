@@ -1,4 +1,4 @@
-// Numbers in any few bytes.
+// Numbers in a given number of bytes.
 ghost use mathlib.Core.Path.{_≡_};
 ghost use Prim.Native.Nat.{_+_, _≤_, _<_};
 ghost use lib.ListN.{length};

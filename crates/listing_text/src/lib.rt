@@ -1,9 +1,7 @@
 // The listing's text.
 mod block;
 mod line;
-mod words;
 
 pub use block::put_header;
 pub use block::put_lines;
 pub use line::put_line;
-pub use line::put_refusal;

@@ -1,16 +1,10 @@
 -- The figures of docs/METHOD.md, by computation.
 -- Assumes nothing.
-use mathlib.Core.Path.{_≡_, refl, sym}
-use native.Mathlib.Nat.{lt-of-le-of-lt}
-use native.Mathlib.Omega.{arith}
-use Rattle.fractions.specs.Fraction.{Fraction, _over_}
+use mathlib.Core.Path.{refl}
 use Rattle.quadrature.specs.Sums.{summed}
 use Rattle.quadrature.specs.Figures.{lowerStep, upperStep}
 use Rattle.quadrature.specs.Cuttings.{cutSum}
 use Rattle.roots.specs.Least.{least}
-use Rattle.roots.specs.Root.{floorRoot, ceilingRoot}
-use Rattle.roots.proofs.Squares.{square-le}
-use Rattle.roots.proofs.Roots.{floor-root-is, ceiling-root-is}
 use Rattle.balance.specs.Provided.{insulation, film, insulationBounds, filmBounds, provided}
 use Rattle.balance.specs.Required.{requirement, enclosing}
 use Rattle.balance.specs.Verdict.{firstNotInsufficient}
@@ -20,20 +14,9 @@ use Rattle.sheet.specs.Sheet.{decoded}
 use Rattle.sheet.specs.Ranges.{anyOutside}
 use Rattle.limits.specs.Limits.{highestNotAbove, lossLimit}
 use Rattle.sheet.specs.Answer.{encoded, lossCheck, surfaceCheck, surfaceBound, answerOf}
+use Rattle.sheet.proofs.Examples.{low, high}
 use Rattle.book.specs.Refusals.{sameBytes}
 use Rattle.method.specs.Method.{Cylinder, Hotter, Between, FlatWall, Entry, Method}
-
--- the root of the cylinder's need, by its square
-abbrev radicand : Fraction
-radicand = 14_191_951_302_540_000_000_000 over 3_673_600
-
-low : floorRoot radicand ≡ 62_154_864
-low = sym (floor-root-is radicand (omega arith) 62_154_864 (omega arith) (omega arith))
-
-high : ceilingRoot radicand ≡ 62_154_865
-high =
-    sym (ceiling-root-is radicand (omega arith) 62_154_865 (omega arith)
-    (λ x lt. lt-of-le-of-lt (square-le {x = x} {y = 62_154_864} (radicand .den) (omega arith)) (omega arith)))
 
 the-cylinder : Cylinder
 unfolding summed lowerStep upperStep least insulation film insulationBounds filmBounds provided requirement enclosing firstNotInsufficient bigEndian bytesOf decoded highestNotAbove lossLimit lossCheck surfaceCheck surfaceBound encoded answerOf anyOutside respond
@@ -43,7 +26,7 @@ the-cylinder =
       temperatures = (refl, refl);
       product = refl;
       squares = (refl, refl);
-      need = rw (low, high);
+      required = rw (low, high);
       annex-27 = refl;
       annex-47 = refl;
       annex-67 = refl;
@@ -64,13 +47,12 @@ the-cylinder =
 
 the-same-hotter : Hotter
 unfolding summed lowerStep upperStep least insulation film insulationBounds filmBounds provided requirement enclosing firstNotInsufficient bigEndian bytesOf decoded highestNotAbove lossLimit lossCheck surfaceCheck surfaceBound encoded answerOf anyOutside respond
-the-same-hotter = record { need = refl; loss-limit = refl; loss-need = refl; surface-need = refl; bound = refl; answer = refl }
+the-same-hotter = record { required = refl; loss-limit = refl; loss-required = refl; surface-required = refl; bound = refl; answer = refl }
 
 between-millimetres : Between
 unfolding summed lowerStep upperStep
 between-millimetres =
     record {
-      step-100 = refl;
       step-270 = refl;
       step-271 = refl;
       step-272 = refl;
@@ -86,21 +68,15 @@ the-flat-wall : FlatWall
 unfolding summed cutSum lowerStep upperStep least insulation film insulationBounds filmBounds provided requirement enclosing firstNotInsufficient bigEndian bytesOf decoded highestNotAbove lossLimit lossCheck surfaceCheck surfaceBound encoded answerOf anyOutside respond
 the-flat-wall =
     record {
-      need = refl;
       at-0 = refl;
       at-10 = refl;
       at-20 = refl;
       at-30 = refl;
       at-40 = refl;
-      at-50 = refl;
-      loss-need = refl;
-      surface-need = refl;
+      loss-required = refl;
+      surface-required = refl;
       bound = refl;
-      answer = refl;
-      open-need = refl;
-      open-have = refl;
-      next-have = refl;
-      refusal = refl;
+      above-open = refl;
       strip = refl;
     }
 

@@ -1,4 +1,4 @@
--- The figures of docs/METHOD.md, section by section.
+-- The figures of docs/METHOD.md, section by section, beside those that P1, P2, P4 and P8 have (`Worked`, of `sheet`).
 -- Assumes nothing.
 use Prim.Native.Nat.{ℕ, _+_, _*_}
 use mathlib.Core.Path.{_≡_}
@@ -12,7 +12,7 @@ use Rattle.annex_tables.specs.Annex.{annexEntry}
 use Rattle.balance.specs.declared.goal.Goal.the-variants.{Loss, Surface}
 use Rattle.balance.specs.declared.line.Shape.the-variants.{Cylinder as Pipe}
 use Rattle.balance.specs.Provided.{filmBounds, insulationBounds, provided}
-use Rattle.refusals.specs.Response.{refused, complete}
+use Rattle.refusals.specs.Response.{complete}
 use Rattle.big_endian.specs.Bytes.{bytesOf, zeroDegrees, offsetBinary}
 use Rattle.sheet.specs.Sheet.{decoded, difference, goalOf}
 use Rattle.sheet.specs.Search.{requiredOf, chosen}
@@ -43,10 +43,10 @@ book = (0 ∷ 2 ∷ 0 ∷ 2 ∷ []) ++ cylinder ++ flat ++ (0 ∷ 1 ∷ 0 ∷ 20
 pub record Cylinder : Type 0 where
   pub signed : offsetBinary 65_436 ≡ 32_668
   pub temperatures : (decoded cylinder .temperature ≡ 32_975) × (difference (decoded cylinder) ≡ 137)
-  -- the need, and the squares that pin it down
+  -- the product under the root, and the squares that pin the root down
   pub product : 14_402_025_000 * (7_500 * 333 * 2_880 * 137) ≡ 14_191_951_302_540_000_000_000
   pub squares : (62_154_864 * 62_154_864 * 3_673_600 ≡ 14_191_951_143_838_570_905_600) × (62_154_865 * 62_154_865 * 3_673_600 ≡ 14_191_951_600_502_791_360_000)
-  pub need : requiredOf (decoded cylinder) (goalOf (decoded cylinder)) ≡ bounds 62_154_864 62_154_865
+  pub required : requiredOf (decoded cylinder) (goalOf (decoded cylinder)) ≡ bounds 62_154_864 62_154_865
   -- the logs
   pub annex-27 : annexEntry 17 ≡ bounds 993_248_177_892 993_258_963_232
   pub annex-47 : annexEntry 37 ≡ bounds 1_547_558_530_565 1_547_570_464_918
@@ -68,15 +68,14 @@ pub record Cylinder : Type 0 where
   pub answer : responseTo cylinder ≡ complete (0 ∷ 1 ∷ 0 ∷ 20 ∷ 3 ∷ 0 ∷ 0 ∷ 77 ∷ [])
 
 pub record Hotter : Type 0 where
-  pub need : requiredOf (decoded hotter) (goalOf (decoded hotter)) ≡ bounds 34_145_507 34_145_508
+  pub required : requiredOf (decoded hotter) (goalOf (decoded hotter)) ≡ bounds 34_145_507 34_145_508
   pub loss-limit : lossLimit 1 (zeroDegrees + 1_300) ≡ 930
-  pub loss-need : requiredOf (decoded hotter) (Loss 930) ≡ bounds 75_193_548 75_193_549
-  pub surface-need : requiredOf (decoded hotter) (Surface 250) ≡ bounds 13_658_203 13_658_204
+  pub loss-required : requiredOf (decoded hotter) (Loss 930) ≡ bounds 75_193_548 75_193_549
+  pub surface-required : requiredOf (decoded hotter) (Surface 250) ≡ bounds 13_658_203 13_658_204
   pub bound : surfaceBound (decoded hotter) (bounds 64_145_256 64_145_354) ≡ zeroDegrees + 304
   pub answer : responseTo hotter ≡ complete (0 ∷ 1 ∷ 0 ∷ 20 ∷ 1 ∷ 0 ∷ 1 ∷ 48 ∷ [])
 
 pub record Between : Type 0 where
-  pub step-100 : stepBounds 100 ≡ bounds 9_950_248_756 9_950_495_050
   pub step-270 : stepBounds 270 ≡ bounds 3_696_857_670 3_696_870_303
   pub step-271 : stepBounds 271 ≡ bounds 3_683_241_252 3_683_253_745
   pub step-272 : stepBounds 272 ≡ bounds 3_669_724_770 3_669_737_126
@@ -88,22 +87,16 @@ pub record Between : Type 0 where
   pub log : logBounds 273 673 ≡ bounds 902_273_067_202 902_274_468_814
 
 pub record FlatWall : Type 0 where
-  pub need : requiredOf (decoded flat) (goalOf (decoded flat)) ≡ bounds 55_000_000 55_000_000
   pub at-0 : provided (decoded flat .line) 0 ≡ bounds 5_000_000 5_000_000
   pub at-10 : provided (decoded flat .line) 10 ≡ bounds 15_000_000 15_000_000
   pub at-20 : provided (decoded flat .line) 20 ≡ bounds 25_000_000 25_000_000
   pub at-30 : provided (decoded flat .line) 30 ≡ bounds 35_000_000 35_000_000
   pub at-40 : provided (decoded flat .line) 40 ≡ bounds 45_000_000 45_000_000
-  pub at-50 : provided (decoded flat .line) 50 ≡ bounds 55_000_000 55_000_000
-  pub loss-need : requiredOf (decoded flat) (Loss 930) ≡ bounds 47_311_827 47_311_828
-  pub surface-need : requiredOf (decoded flat) (Surface 300) ≡ bounds 18_333_333 18_333_334
+  pub loss-required : requiredOf (decoded flat) (Loss 930) ≡ bounds 47_311_827 47_311_828
+  pub surface-required : requiredOf (decoded flat) (Surface 300) ≡ bounds 18_333_333 18_333_334
   pub bound : surfaceBound (decoded flat) (bounds 55_000_000 55_000_000) ≡ zeroDegrees + 300
-  pub answer : responseTo flat ≡ complete (0 ∷ 2 ∷ 0 ∷ 50 ∷ 0 ∷ 0 ∷ 1 ∷ 44 ∷ [])
-  -- the open rung of sheet G
-  pub open-need : requiredOf (decoded sheetG) (goalOf (decoded sheetG)) ≡ bounds 3_439_380 3_439_381
-  pub open-have : provided (decoded sheetG .line) 0 ≡ bounds 3_439_380 3_439_381
-  pub next-have : provided (decoded sheetG .line) 10 .lower ≡ 13_439_380
-  pub refusal : responseTo sheetG ≡ refused 18
+  -- the rung above the open one of sheet G
+  pub above-open : provided (decoded sheetG .line) 10 .lower ≡ 13_439_380
   -- the exact equation: strip 100, cut in 2
   pub strip : lowerSum 2 100 101 ≡ 1_608 over 161_603
 

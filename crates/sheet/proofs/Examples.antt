@@ -51,13 +51,13 @@ pub record Examples : Type 0 where
   pub surface-close : Answers (sheetOf 2 1 12_000 803 200 100 101 402) (0 ∷ 2 ∷ 0 ∷ 10 ∷ 0 ∷ 2 ∷ 1 ∷ 245 ∷ [])
 
 -- the economy requirement of both sheets: 14,402,025,000 × 7,500 × 333 × 2,880 × 137 / (1,600 × 2,296) under the root
-abbrev radicand : Fraction
+abbrev pub radicand : Fraction
 radicand = 14_191_951_302_540_000_000_000 over 3_673_600
 
-low : floorRoot radicand ≡ 62_154_864
+pub low : floorRoot radicand ≡ 62_154_864
 low = sym (floor-root-is radicand (omega arith) 62_154_864 (omega arith) (omega arith))
 
-high : ceilingRoot radicand ≡ 62_154_865
+pub high : ceilingRoot radicand ≡ 62_154_865
 high =
     sym (ceiling-root-is radicand (omega arith) 62_154_865 (omega arith)
     (λ x lt. lt-of-le-of-lt (square-le {x = x} {y = 62_154_864} (radicand .den) (omega arith)) (omega arith)))

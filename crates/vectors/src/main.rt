@@ -54,7 +54,7 @@ fn comes_to(sheet: &[u8], expected: &[u8]) -> bool {
     let mut room = [0u8; 64];
     match work_out(sheet) {
         Outcome::Refused(why) => {
-            let n = listing_text::put_refusal(&mut room, 0, why);
+            let n = answer_text::put_refusal(&mut room, 0, why);
             check::same(&room[..n], expected)
         }
         Outcome::Answered(answer) => {

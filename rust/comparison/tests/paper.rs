@@ -101,6 +101,41 @@ fn economy_thickness() {
     assert_eq!(thickness(&economy(320)), Ok(30));
 }
 
+/// Table 4 of source document 002 up to D 10,000: pipe diameters, and the
+/// printed thicknesses before the correction factor, in 0.01 mm.
+const TABLE_4: [(i32, u16); 20] = [
+    (270, 1_950),
+    (320, 2_015),
+    (380, 2_082),
+    (450, 2_148),
+    (570, 2_237),
+    (760, 2_340),
+    (890, 2_394),
+    (1_080, 2_457),
+    (1_330, 2_520),
+    (1_590, 2_570),
+    (2_190, 2_648),
+    (2_730, 2_695),
+    (3_250, 2_728),
+    (3_770, 2_753),
+    (4_260, 2_772),
+    (4_800, 2_789),
+    (5_300, 2_802),
+    (6_300, 2_822),
+    (7_300, 2_837),
+    (8_300, 2_849),
+];
+
+/// "with the two temperatures exchanged and the printed thickness, before its
+/// correction factor, taken up to the next 10 mm"
+#[test]
+fn table_4() {
+    for (diameter, printed) in TABLE_4 {
+        let next_10 = 10 * printed.div_ceil(1_000);
+        assert_eq!(thickness(&economy(diameter)), Ok(next_10), "D {diameter}");
+    }
+}
+
 #[test]
 fn wrong_lengths() {
     for length in 0..24 {

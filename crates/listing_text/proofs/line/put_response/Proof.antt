@@ -4,7 +4,7 @@ use mathlib.Core.Path.{sym, ap, _∙_}
 use native.Mathlib.Omega.{arith}
 use Rattle.refusals.specs.Response.{complete}
 use Rattle.outcome.specs.Outcome.{response}
-use Rattle.listing_text.specs.Line.{responseText}
+use Rattle.answer_text.specs.Response.{responseText}
 use borrow.Author.Needs.{needs}
 use Rattle.listing_text.proofs.line.put_response.Statement.{statement}
 use Rattle.listing_text.proofs.line.put_response.Tie as tie

@@ -2,7 +2,7 @@
 ghost use Prim.Native.Nat.{_+_, _≤_};
 ghost use lib.ListN.{length};
 ghost use Rattle.overlay.specs.Overlay.{Written};
-ghost use Rattle.listing_text.specs.Line.{shapeWord, checkWord, tenths, degrees, spaced};
+ghost use Rattle.answer_text.specs.Response.{shapeWord, checkWord, tenths, degrees, spaced};
 use big_endian::ZERO;
 use overlay::put;
 use text::put_decimal;

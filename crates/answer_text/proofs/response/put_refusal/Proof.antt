@@ -3,10 +3,10 @@
 use native.Mathlib.Omega.{arith}
 use Rattle.overlay.proofs.Overlay.{then}
 use Rattle.text.proofs.Counts.{counts}
-use Rattle.listing_text.specs.Line.{responseText}
+use Rattle.answer_text.specs.Response.{responseText}
 use borrow.Author.Needs.{needs}
-use Rattle.listing_text.proofs.line.put_refusal.Statement.{statement}
-use Rattle.listing_text.proofs.line.put_refusal.Tie as tie
+use Rattle.answer_text.proofs.response.put_refusal.Statement.{statement}
+use Rattle.answer_text.proofs.response.put_refusal.Tie as tie
 
 slice-aggregate-put : tie.Need-slice-aggregate-put
 slice-aggregate-put c = search needs

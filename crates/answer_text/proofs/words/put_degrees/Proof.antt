@@ -4,10 +4,10 @@ use native.Mathlib.Omega.{arith}
 use borrow.Author.Tests.{lt-ltb, le-ltb}
 use Rattle.overlay.proofs.Overlay.{then}
 use Rattle.big_endian.specs.Bytes.{zeroDegrees}
-use Rattle.listing_text.specs.Line.{degrees}
+use Rattle.answer_text.specs.Response.{degrees}
 use borrow.Author.Needs.{needs}
-use Rattle.listing_text.proofs.words.put_degrees.Statement.{statement}
-use Rattle.listing_text.proofs.words.put_degrees.Tie as tie
+use Rattle.answer_text.proofs.words.put_degrees.Statement.{statement}
+use Rattle.answer_text.proofs.words.put_degrees.Tie as tie
 
 slice-aggregate-put : tie.Need-slice-aggregate-put
 slice-aggregate-put c = search needs

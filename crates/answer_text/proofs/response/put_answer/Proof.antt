@@ -2,10 +2,10 @@
 -- Assumes nothing.
 use native.Mathlib.Omega.{arith}
 use Rattle.overlay.proofs.Overlay.{then}
-use Rattle.listing_text.specs.Line.{answerText}
+use Rattle.answer_text.specs.Response.{answerText}
 use borrow.Author.Needs.{needs}
-use Rattle.listing_text.proofs.line.put_answer.Statement.{statement}
-use Rattle.listing_text.proofs.line.put_answer.Tie as tie
+use Rattle.answer_text.proofs.response.put_answer.Statement.{statement}
+use Rattle.answer_text.proofs.response.put_answer.Tie as tie
 
 shared-slice-read-put-shape : tie.Need-shared-slice-read-put-shape
 shared-slice-read-put-shape c = search needs

@@ -2,10 +2,10 @@
 -- Assumes nothing.
 use native.Mathlib.Omega.{arith}
 use Rattle.overlay.proofs.Overlay.{then}
-use Rattle.listing_text.specs.Line.{tenths}
+use Rattle.answer_text.specs.Response.{tenths}
 use borrow.Author.Needs.{needs}
-use Rattle.listing_text.proofs.words.put_tenths.Statement.{statement}
-use Rattle.listing_text.proofs.words.put_tenths.Tie as tie
+use Rattle.answer_text.proofs.words.put_tenths.Statement.{statement}
+use Rattle.answer_text.proofs.words.put_tenths.Tie as tie
 
 put-decimal-requires : tie.Need-put-decimal-requires
 put-decimal-requires c κs = search needs
