@@ -4,8 +4,8 @@
     python3 tools/share.py
 
 goes over every rate i from 1 to 3,000 and every term n from 2 to 30. It prints the pairs for which the two ends round
-differently, the least and the largest share given, how often a share is a half exactly, and the pairs whose exact share is
-nearest to a half. Shares count 0.0001.
+differently, the least and the largest share given, how often a share is a half exactly, where the ends are farthest apart, and
+the pairs whose exact share is nearest to a half. Shares count 0.0001.
 """
 from fractions import Fraction
 from heapq import nsmallest
@@ -44,6 +44,12 @@ def from_half(n, d):
     return Fraction(2 * (n % d) - d, 2 * d)
 
 
+def apart(i, n):
+    """How far the two ends are apart, before they are rounded."""
+    high, low = (Fraction(*fraction(i, g)) for g in growth(i, n))
+    return high - low
+
+
 def decimal(n, d, places=12):
     """n / d with that many decimals, cut off; n may be negative."""
     whole, rest = divmod(abs(n) * 10**places // d, 10**places)
@@ -68,6 +74,7 @@ def show_parted(i, n):
     show_end("up", i, high)
     print(f"  exact growth {decimal((10_000 + i)**n * ONE, 10_000**n)}")
     print(f"  exact share {decimal(*share)}, nearest {nearest(*share):,}")
+    print(f"  the ends are {decimal(*apart(i, n).as_integer_ratio())} apart")
 
 
 def main():
@@ -91,10 +98,15 @@ def main():
 
     halves = sum(from_half(*share) == 0 for i, n in pairs for share in (*(fraction(i, g) for g in growth(i, n)), exact(i, n)))
     print(f"exact halves among the shares of both ends and the exact shares: {halves:,}")
+    i, n = max(pairs, key=lambda pair: apart(*pair))
+    print(f"the ends are farthest apart at i = {i:,}, n = {n}: {decimal(*apart(i, n).as_integer_ratio())}")
+    distances = {pair: from_half(*exact(*pair)) for pair in pairs}
     print("exact shares nearest to a half:")
-    for i, n in nsmallest(3, pairs, key=lambda pair: abs(from_half(*exact(*pair)))):
-        distance = from_half(*exact(i, n))
-        print(f"  i = {i:,}, n = {n}: {decimal(*exact(i, n))}, from the half {decimal(distance.numerator, distance.denominator)}")
+    for i, n in nsmallest(3, pairs, key=lambda pair: abs(distances[pair])):
+        print(f"  i = {i:,}, n = {n}: {decimal(*exact(i, n))}, from the half {decimal(*distances[i, n].as_integer_ratio())}")
+    for pair in parted:
+        nearer = sum(abs(distance) < abs(distances[pair]) for distance in distances.values())
+        print(f"  nearer than i = {pair[0]:,}, n = {pair[1]}: {nearer:,} pairs")
 
 
 main()

@@ -1,4 +1,5 @@
--- An entry filed in a new book reads back equal, for any layout: filing keeps every entry, and the new one is the sheet with its answer.
+-- An entry filed in a new book reads back equal, for any usable layout with sheets of 24 bytes: filing keeps every entry, and the new one
+-- is the sheet with its answer.
 -- Assumes nothing.
 use mathlib.Core.Path.{_≡_, refl, sym, ap, _∙_}
 use mathlib.Core.Bool.{false, not}

@@ -32,7 +32,7 @@ sheetOrder = 11 ∷ 12 ∷ 13 ∷ 14 ∷ 15 ∷ 16 ∷ 17 ∷ 18 ∷ []
 
 -- Demand 1: "The answer to every sheet and to every book, sound or damaged, is the number of the first listed refusal, in the listed order,
 -- whose stated case holds, and is complete when none holds; a refused filing changes no byte of the book, and a caller has nothing to check
--- beforehand." This says it of each of the four calls, for every layout; no call has a `requires`.
+-- beforehand." This says it of each of the four calls on sheets and books, for every layout; no call has a `requires`.
 pub record Demand1 : Type 0 where
   pub of-sheets : (sheet : List ℕ) → FirstOrComplete (cases sheet) (answer sheet) (responseTo sheet)
   pub of-making : (l : Layout) (book : List ℕ) (c : ℕ) → FirstOrComplete (makingCases l book c) [] (making l book c)

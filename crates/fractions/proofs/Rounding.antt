@@ -66,7 +66,7 @@ half-up n = omega arith
 abbrev half-more : Fraction → Fraction
 half-more p = (2 * p .num + p .den) over (2 * p .den)
 
--- less a half it is not above the fraction; with a half more it is above it
+-- s − 1/2 is not above the fraction, and s + 1/2 is above it, s being the nearest whole number
 pub nearest-below : (p : Fraction) → nearest p * (2 * p .den) ≤ 2 * p .num + p .den
 nearest-below p = floor-below (half-more p)
 

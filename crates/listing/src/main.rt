@@ -4,6 +4,8 @@ ghost use mathlib.Core.Bool.{cond};
 ghost use Prim.Native.Nat.{_+_, _-_, _*_, _%_, _≤_};
 ghost use lib.ListN.{length, take};
 ghost use Rattle.io.specs.Counts.{Counts};
+ghost use Rattle.overlay.specs.Overlay.{overlay};
+ghost use Rattle.listing_text.specs.Listing.{linesOf};
 use libc::STDERR_FILENO;
 use libc::STDIN_FILENO;
 use libc::STDOUT_FILENO;
@@ -73,9 +75,10 @@ fn write(bytes: &[u8]) -> bool {
     written
 }
 
-// Writes the lines of a block of at most 512 sheets.
+// Writes the lines of a block of at most 512 sheets, from out.
 fn list(sheets: &[u8], out: &mut [u8]) -> bool
     requires { ⌜ (length (now sheets) ≤ 12_288) × (108 * 512 ≤ length (now out)) ⌝ }
+    ensures { λ _. ⌜ now (out .exit) ≡ overlay (now (out .entry)) 0 (linesOf (now (sheets .entry))) ⌝ }
 {
     let n = listing_text::put_lines(out, sheets);
     write(&out[..n])
