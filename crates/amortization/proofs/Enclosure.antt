@@ -9,7 +9,7 @@ use Rattle.fractions.specs.Rounding.{floor, ceiling, nearest}
 use Rattle.fractions.proofs.Rounding.{nearest-below, below-half, nearest-mono}
 use Rattle.amortization.specs.declared.compounding.Rounding.{Rounding}
 use Rattle.amortization.specs.declared.compounding.Rounding.the-variants.{Down, Up}
-use Rattle.amortization.specs.Growth.{principal, growth, roundedTo, exactGrowth}
+use Rattle.amortization.specs.Growth.{principal, growth, roundedGrowth, roundedTo, exactGrowth}
 use Rattle.amortization.specs.Share.{share, shareBy, exactShare}
 use Rattle.amortization.proofs.Growth.{growth-below, growth-above, simple-interest}
 
@@ -43,17 +43,17 @@ module _ (i n : ℕ) (some : 1 ≤ i) (years : 1 ≤ n) where
       let not-less : ¬ (growth ceiling i n ≤ principal) = λ le. omega (arith, growth-above i n, exact-grown, mul-le-mul-right (10_000 ^ n) le) in
       omega arith
 
-  pub share-above : share i (exactGrowth i n) ≼ share i (growth floor i n over principal)
-  share-above = share-order i (growth floor i n over principal) (exactGrowth i n) floor-grown exact-grown (growth-below i n)
+  pub share-above : share i (exactGrowth i n) ≼ share i (roundedGrowth floor i n)
+  share-above = share-order i (roundedGrowth floor i n) (exactGrowth i n) floor-grown exact-grown (growth-below i n)
 
-  pub share-below : share i (growth ceiling i n over principal) ≼ share i (exactGrowth i n)
-  share-below = share-order i (exactGrowth i n) (growth ceiling i n over principal) exact-grown ceiling-grown (growth-above i n)
+  pub share-below : share i (roundedGrowth ceiling i n) ≼ share i (exactGrowth i n)
+  share-below = share-order i (exactGrowth i n) (roundedGrowth ceiling i n) exact-grown ceiling-grown (growth-above i n)
 
   -- where the two ends round alike, they round to the exact share
   pub share-exact : shareBy ceiling i n ≡ shareBy floor i n → shareBy floor i n ≡ exactShare i n
   share-exact same =
-      let below = nearest-mono (share i (growth ceiling i n over principal)) (share i (exactGrowth i n)) (omega (arith, ceiling-grown)) (omega (arith, exact-grown)) share-below in
-      let above = nearest-mono (share i (exactGrowth i n)) (share i (growth floor i n over principal)) (omega (arith, exact-grown)) (omega (arith, floor-grown)) share-above in
+      let below = nearest-mono (share i (roundedGrowth ceiling i n)) (share i (exactGrowth i n)) (omega (arith, ceiling-grown)) (omega (arith, exact-grown)) share-below in
+      let above = nearest-mono (share i (exactGrowth i n)) (share i (roundedGrowth floor i n)) (omega (arith, exact-grown)) (omega (arith, floor-grown)) share-above in
       omega (arith, below, above)
 
 -- the share of one year
@@ -68,7 +68,7 @@ module _ (i n : ℕ) (some : 1 ≤ i) (years : 2 ≤ n) where
   pub share-least : 1 ≤ shareBy floor i n
   share-least =
       let grown : principal < growth floor i n = floor-grown i n some (omega arith) in
-      let half = below-half (share i (growth floor i n over principal)) (omega arith) in
+      let half = below-half (share i (roundedGrowth floor i n)) (omega arith) in
       let none : ¬ (shareBy floor i n ≡ 0) = λ zero. omega (arith, mul-le-mul-right (growth floor i n) some, rw zero at half) in
       omega arith
 
@@ -78,7 +78,7 @@ module _ (i n : ℕ) (some : 1 ≤ i) (years : 2 ≤ n) where
       let s = shareBy floor i n in
       let grown = simple-interest i n in
       let interest = mul-le-mul-left i years in
-      let half = nearest-below (share i (growth floor i n over principal)) in
+      let half = nearest-below (share i (roundedGrowth floor i n)) in
       let whole : i * (principal + a) ≡ i * growth floor i n = ap (λ (x : ℕ). i * x) (add-sub-of-le (omega (arith, grown))) in
       let not-more : ¬ (10_001 ≤ s) = λ more. omega (arith, half, grown, interest, whole, mul-le-mul-right a more, mul-le-mul-right a rate) in
       omega arith

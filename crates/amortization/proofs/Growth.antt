@@ -10,7 +10,7 @@ use Rattle.fractions.specs.Rounding.{floor, ceiling}
 use Rattle.fractions.proofs.Rounding.{floor-below, ceiling-above, ceiling-mono, floor-ceiling}
 use Rattle.amortization.specs.declared.compounding.Rounding.{Rounding}
 use Rattle.amortization.specs.declared.compounding.Rounding.the-variants.{Down, Up}
-use Rattle.amortization.specs.Growth.{principal, year, growth, exactGrowth, roundedTo}
+use Rattle.amortization.specs.Growth.{principal, year, growth, roundedGrowth, exactGrowth, roundedTo}
 
 -- One law for both roundings, `Side` being ≤ or ≥: a rounding that keeps to one side of each fraction keeps to that side of the exact growth.
 module _ (Side : ℕ → ℕ → Type 0) (same : (a : ℕ) → Side a a) (trans : (a b c : ℕ) → Side a b → Side b c → Side a c) (times : (a b k : ℕ) → Side a b → Side (a * k) (b * k)) (round : Fraction → ℕ) (rounded : (p : Fraction) → 0 < p .den → Side (round p * p .den) (p .num)) where
@@ -25,10 +25,10 @@ module _ (Side : ℕ → ℕ → Type 0) (same : (a : ℕ) → Side a a) (trans 
       rw (first, last) at (trans _ _ _ (times _ _ (10_000 ^ n) (rounded ((g * (10_000 + i)) over 10_000) (omega arith))) (rw middle at (times _ _ (10_000 + i) (one-side i n))))
 
 -- "once rounded down and once up": the exact growth lies between the two
-pub growth-below : (i n : ℕ) → (growth floor i n over principal) ≼ exactGrowth i n
+pub growth-below : (i n : ℕ) → roundedGrowth floor i n ≼ exactGrowth i n
 growth-below = one-side _≤_ le-refl (λ a b c h k. le-trans h k) (λ a b k h. mul-le-mul-right k h) floor (λ p _. floor-below p)
 
-pub growth-above : (i n : ℕ) → exactGrowth i n ≼ (growth ceiling i n over principal)
+pub growth-above : (i n : ℕ) → exactGrowth i n ≼ roundedGrowth ceiling i n
 growth-above = one-side (λ a b. b ≤ a) le-refl (λ a b c h k. le-trans k h) (λ a b k h. mul-le-mul-right k h) ceiling ceiling-above
 
 -- compound interest is no less than simple interest

@@ -19,6 +19,10 @@ unfoldable pub growth : (Fraction → ℕ) → ℕ → ℕ → ℕ
 growth round i zero = principal
 growth round i (suc n) = year round i (growth round i n)
 
+-- the same, over the principal
+abbrev pub roundedGrowth : (Fraction → ℕ) → ℕ → ℕ → Fraction
+roundedGrowth round i n = growth round i n over principal
+
 -- the growth unrounded, (1 + i / 10,000)ⁿ
 abbrev pub exactGrowth : ℕ → ℕ → Fraction
 exactGrowth i n = ((10_000 + i) ^ n) over (10_000 ^ n)

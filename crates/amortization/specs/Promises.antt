@@ -3,23 +3,23 @@
 use Prim.Native.Nat.{ℕ, _+_, _≤_, _<_}
 use mathlib.Core.Path.{_≡_}
 use mathlib.Core.List.{List, [], _∷_}
-use Rattle.fractions.specs.Fraction.{Fraction, _over_, _≼_, _≺_}
+use Rattle.fractions.specs.Fraction.{Fraction, _≼_, _≺_}
 use Rattle.fractions.specs.Rounding.{floor, ceiling}
 use Rattle.refusals.specs.Cases.{numbers}
 use Rattle.refusals.specs.Response.{complete, FirstOrComplete}
-use Rattle.amortization.specs.Growth.{principal, growth, exactGrowth}
+use Rattle.amortization.specs.Growth.{roundedGrowth, exactGrowth}
 use Rattle.amortization.specs.Share.{share, shareBy, exactShare}
 use Rattle.amortization.specs.Refusals.{cases, shareResponse}
 
 pub record Promises : Type 0 where
   -- "once rounded down and once up": the exact growth lies between the two figures
-  pub growth-enclosed : (i n : ℕ) → ((growth floor i n over principal) ≼ exactGrowth i n) × (exactGrowth i n ≼ (growth ceiling i n over principal))
+  pub growth-enclosed : (i n : ℕ) → (roundedGrowth floor i n ≼ exactGrowth i n) × (exactGrowth i n ≼ roundedGrowth ceiling i n)
   -- "S falls as growth rises": of any two growths above 1
   pub share-falls : (i : ℕ) (g h : Fraction) → 0 < i → g .den < g .num → h .den < h .num → g ≺ h → share i h ≺ share i g
   -- "so the two growth figures enclose it": from one year up
   pub share-enclosed :
       (i n : ℕ) → 1 ≤ i → 1 ≤ n →
-      (share i (growth ceiling i n over principal) ≼ share i (exactGrowth i n)) × (share i (exactGrowth i n) ≼ share i (growth floor i n over principal))
+      (share i (roundedGrowth ceiling i n) ≼ share i (exactGrowth i n)) × (share i (exactGrowth i n) ≼ share i (roundedGrowth floor i n))
   -- the first case that holds, or a share; the listed order
   pub first : (i n : ℕ) → FirstOrComplete (cases i n) (shareBy floor i n ∷ []) (shareResponse i n)
   pub order : (i n : ℕ) → numbers (cases i n) ≡ (41 ∷ 42 ∷ [])
