@@ -10,7 +10,7 @@ unfolding respond growth
 worked-shares =
     record {
       ten-per-cent = refl;
-      three-places = (refl, refl);
+      printed = (refl, refl);
       corners = (refl, refl, refl, refl);
       beyond = (refl, refl, refl, refl);
       undecided = refl;

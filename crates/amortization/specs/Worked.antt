@@ -12,7 +12,7 @@ pub record WorkedShares : Type 0 where
   pub ten-per-cent : shareResponse 1_000 6 ≡ complete (2_296 ∷ [])
   -- of the source documents, 002, (2), prints 22.96 per cent for it; 001, on 5.4.7, prints 0.264 for ten per cent over five years and
   -- 0.142 for seven per cent over ten, which are these to three places
-  pub three-places : (shareResponse 1_000 5 ≡ complete (2_638 ∷ [])) × (shareResponse 700 10 ≡ complete (1_424 ∷ []))
+  pub printed : (shareResponse 1_000 5 ≡ complete (2_638 ∷ [])) × (shareResponse 700 10 ≡ complete (1_424 ∷ []))
   -- the corners of the ranges
   pub corners : (shareResponse 1 2 ≡ complete (5_001 ∷ [])) × (shareResponse 1 30 ≡ complete (334 ∷ [])) × (shareResponse 3_000 2 ≡ complete (7_348 ∷ [])) × (shareResponse 3_000 30 ≡ complete (3_001 ∷ []))
   -- "41 for a rate or term outside its range"

@@ -1,4 +1,4 @@
--- What a sheet comes to, as text. 01, "Sheets worked by hand".
+-- An answer or a refusal, as text. 01, "Sheets worked by hand".
 -- Assumes nothing.
 use Prim.Native.Nat.{ℕ, _-_, _/_, _%_}
 use mathlib.Core.Bool.{cond}
@@ -34,7 +34,7 @@ answerText a =
     spaced (shapeWord (getD a 1 0)) ++ spaced (decimal (bigEndian a 2 2)) ++
     spaced (checkWord (getD a 4 0)) ++ spaced (checkWord (getD a 5 0)) ++ degrees (offsetBinary (bigEndian a 6 2))
 
--- "A refused sheet prints its line number, the word refused and the refusal number."
+-- "A refused sheet prints its line number, the word refused and the refusal number.": the last two
 unfoldable pub responseText : Response → List ℕ
 responseText (refused n) = ascii "refused " ++ decimal n
 responseText (complete a) = answerText a

@@ -1,4 +1,4 @@
-// What a sheet comes to, as text.
+// An answer or a refusal, as text.
 ghost use mathlib.Core.Path.{_≡_};
 ghost use Prim.Native.Nat.{_+_, _≤_};
 ghost use lib.ListN.{length};

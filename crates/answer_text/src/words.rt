@@ -1,4 +1,4 @@
-// The words and figures of a line, each put at a place of lent bytes.
+// The words and figures of an answer, each put at a place of lent bytes.
 ghost use Prim.Native.Nat.{_+_, _≤_};
 ghost use lib.ListN.{length};
 ghost use Rattle.overlay.specs.Overlay.{Written};

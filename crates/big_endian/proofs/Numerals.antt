@@ -1,4 +1,4 @@
--- Numbers in the bytes of a book.
+-- Numbers in bytes: each is read from its own bytes alone, and read back where it was put.
 -- Assumes nothing.
 use mathlib.Core.Path.{_≡_, refl, sym, ap, _∙_}
 use mathlib.Core.List.{List}

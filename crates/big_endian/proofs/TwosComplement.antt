@@ -1,4 +1,4 @@
--- The count of a signed field is the toolchain's two's complement reading, shifted by 32,768; and the count turns back.
+-- The count of a signed number is the toolchain's two's complement reading, shifted by 32,768; and the count turns back.
 -- Assumes nothing.
 use mathlib.Core.Path.{_≡_, refl, ap}
 use mathlib.Core.Bool.{Bool, true, false}

@@ -1,4 +1,4 @@
--- The figures of docs/METHOD.md, section by section, beside those that P1, P2, P4 and P8 have (`Worked`, of `sheet`).
+-- The figures of docs/METHOD.md, section by section, beside those that `Worked`, of `sheet`, has: P1, P2, P4, P8 and the answer to F.
 -- Assumes nothing.
 use Prim.Native.Nat.{ℕ, _+_, _*_}
 use mathlib.Core.Path.{_≡_}

@@ -3,7 +3,6 @@ mod entry;
 
 ghost use mathlib.Core.Path.{_≡_};
 ghost use mathlib.Core.List.{_++_};
-ghost use Prim.Native.Nat.{_+_, _<_};
 ghost use lib.ListN.{length};
 ghost use Rattle.refusals.specs.Cases.{NoneHolds};
 ghost use Rattle.refusals.specs.Response.{after};

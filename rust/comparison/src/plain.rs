@@ -221,7 +221,7 @@ pub fn examine(sheet: &[u8]) -> Result<Sheet, Refusal> {
         return Err(15);
     }
     // 16: goal 2 with aim 0; goal 3 unless ta < aim < t.
-    let within_reach = match goal {
+    let valid_aim = match goal {
         Goal::Economy => true,
         Goal::Loss => sheet.loss_aim() != 0,
         Goal::Surface => {
@@ -229,7 +229,7 @@ pub fn examine(sheet: &[u8]) -> Result<Sheet, Refusal> {
                 && sheet.surface_aim() < sheet.pipe_temperature
         }
     };
-    if within_reach {
+    if valid_aim {
         Ok(sheet)
     } else {
         Err(16)

@@ -1,4 +1,4 @@
--- `sheet::loss_limit` meets its contract.
+-- `loss_limit` meets its contract.
 -- Assumes nothing.
 use mathlib.Core.Path.{_≡_, ap, _∙_}
 use Prim.Native.Nat.{ℕ, suc, _-_, _*_, _/_}

@@ -1,4 +1,4 @@
--- `sheet::surface_limit` meets its contract.
+-- `surface_limit` meets its contract.
 -- Assumes nothing.
 use borrow.Author.Tests.{le-leb, lt-leb}
 use borrow.Author.Needs.{needs}

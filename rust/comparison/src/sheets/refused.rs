@@ -170,7 +170,7 @@ fn put_not_hot(random: &mut Random, draft: &mut Draft) {
     put_temperatures(draft, (pipe, air));
 }
 
-/// Goal 2: 0, or 1 which is in reach. Goal 3: at or outside ta and t, or just
+/// Goal 2: 0, or 1 which is valid. Goal 3: at or outside ta and t, or just
 /// inside. Goal 1: not zero.
 fn put_aim(random: &mut Random, draft: &mut Draft) {
     let pipe = get_field(draft, plain::PIPE_TEMPERATURE);
