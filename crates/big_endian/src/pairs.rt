@@ -3,6 +3,7 @@ ghost use mathlib.Core.Path.{_≡_};
 ghost use Prim.Native.Nat.{_+_, _<_};
 ghost use lib.ListN.{length};
 ghost use Rattle.big_endian.specs.Bytes.{bigEndian, offsetBinary};
+use crate::widths::number;
 
 // A signed 0, and so 0.0 °C, counted from −32,768.
 pub const ZERO: u64 = 32_768;
@@ -12,7 +13,7 @@ pub fn unsigned(bytes: &[u8], at: usize) -> u64
     requires { ⌜ at + 1 < length (now bytes) ⌝ }
     ensures { λ r. ⌜ (r ≡ bigEndian (now (bytes .entry)) at 2) × (r < 65_536) ⌝ }
 {
-    256 * (bytes[at] as u64) + bytes[at + 1] as u64
+    number(bytes, at, 2)
 }
 
 // The same as a signed number, counted from −32,768.

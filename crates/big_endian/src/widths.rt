@@ -1,6 +1,6 @@
 // Numbers in a given number of bytes.
 ghost use mathlib.Core.Path.{_≡_};
-ghost use Prim.Native.Nat.{_+_, _≤_, _<_};
+ghost use Prim.Native.Nat.{_+_, _^_, _≤_, _<_};
 ghost use lib.ListN.{length};
 ghost use Rattle.overlay.specs.Overlay.{overlay};
 ghost use Rattle.big_endian.specs.Bytes.{bigEndian, bytesOf};
@@ -8,7 +8,7 @@ ghost use Rattle.big_endian.specs.Bytes.{bigEndian, bytesOf};
 // The number in width bytes from place at on.
 pub fn number(bytes: &[u8], at: usize, width: usize) -> u64
     requires { ⌜ (width ≤ 4) × (at + width ≤ length (now bytes)) ⌝ }
-    ensures { λ r. ⌜ r ≡ bigEndian (now (bytes .entry)) at width ⌝ }
+    ensures { λ r. ⌜ (r ≡ bigEndian (now (bytes .entry)) at width) × (r < 256 ^ width) ⌝ }
 {
     let mut n = 0;
     let mut i = 0;

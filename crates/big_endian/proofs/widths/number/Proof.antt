@@ -57,7 +57,7 @@ returns : tie.Need-returns Inv-loop μ-loop
 returns c =
     let loop = c .before .loop in
     let all : loop .i ≡ c .before .before .before .args .width = omega arith in
-    rw all at (loop .inv .1)
+    (rw all at (loop .inv .1), rw all at (loop .inv .2))
 
 pub number-spec : {M : Type 1} → statement M
 number-spec =

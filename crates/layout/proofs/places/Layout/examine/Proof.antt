@@ -27,7 +27,7 @@ module _ (c : tie.After-wrong-size) where
   b = c .before .before .before .before .before .before .before .args .book .now
 
   size-told : c .wrong-size .result ≡ wrongSize l (length b) (capacity l b)
-  size-told = rw (c .before .before .before .number .ensures) at (c .wrong-size .ensures)
+  size-told = rw (c .before .before .before .number .ensures .0) at (c .wrong-size .ensures)
 
 header-requires : tie.Need-header-requires
 header-requires c κs = search needs
@@ -62,15 +62,15 @@ returns-3 : tie.Need-returns-3
 unfolding NoneHolds
 returns-3 c =
     let k = c .before .before in
-    let above : ltb (capacity (l k) (b k)) (count (l k) (b k)) ≡ true = lt-ltb (capacity (l k) (b k)) (count (l k) (b k)) (rw (k .before .before .before .number .ensures, k .before .number2 .ensures) at (c .if3 .taken)) in
+    let above : ltb (capacity (l k) (b k)) (count (l k) (b k)) ≡ true = lt-ltb (capacity (l k) (b k)) (count (l k) (b k)) (rw (k .before .before .before .number .ensures .0, k .before .number2 .ensures .0) at (c .if3 .taken)) in
     sym (first-at 1 (bookCases (l k) (b k)) _ (sym (size-told k) ∙ c .before .if2 .left, tt) above)
 
 returns-4 : tie.Need-returns-4
 unfolding NoneHolds
 returns-4 c =
     let k = c .before .before in
-    let within : ltb (capacity (l k) (b k)) (count (l k) (b k)) ≡ false = le-ltb (capacity (l k) (b k)) (count (l k) (b k)) (rw (k .before .before .before .number .ensures, k .before .number2 .ensures) at (c .if3 .left)) in
-    sym (none-holds (bookCases (l k) (b k)) _ (sym (size-told k) ∙ c .before .if2 .left, (within, tt)) ∙ rw (k .before .before .before .number .ensures, k .before .number2 .ensures) refl)
+    let within : ltb (capacity (l k) (b k)) (count (l k) (b k)) ≡ false = le-ltb (capacity (l k) (b k)) (count (l k) (b k)) (rw (k .before .before .before .number .ensures .0, k .before .number2 .ensures .0) at (c .if3 .left)) in
+    sym (none-holds (bookCases (l k) (b k)) _ (sym (size-told k) ∙ c .before .if2 .left, (within, tt)) ∙ rw (k .before .before .before .number .ensures .0, k .before .number2 .ensures .0) refl)
 
 pub examine-spec : {M : Type 1} → statement M
 examine-spec =
