@@ -5,7 +5,7 @@ A sheet is here a dictionary of its fields. Only the search uses these figures: 
 from itertools import accumulate
 from math import gcd
 
-from sheet import MEETS, MISSES, OPEN, SEASONAL, YEAR_ROUND, judge, ratio, root, sheet_of, up
+from sheet import MEETS, MISSES, OPEN, judge, loss_limit, ratio, root, sheet_of, up
 
 NAMES = "goal service D t ta L alpha f tau P S aim".split()
 UNDER = [0, *accumulate(2 * 10**12 // (2 * i + 1) for i in range(100, 16_000))]
@@ -24,7 +24,7 @@ def fields(r, goal, flat, **fixed):
     t = r.randint(ta + 2, r.choice([700, 2_000, 6_500]))
     L = r.choice([r.randint(1, 2_000), r.randint(300, 700)])
     alpha = r.choice([r.randint(100, 10_000), r.randint(700, 2_500), 10 * r.randint(10, 400)])
-    x = dict(goal=goal, service=r.randint(1, 2), line=0, D=D, t=t, ta=ta, L=L, alpha=alpha, f=0, tau=0, P=0, S=0, aim=0)
+    x = dict(goal=goal, service=r.randint(1, 4), line=0, D=D, t=t, ta=ta, L=L, alpha=alpha, f=0, tau=0, P=0, S=0, aim=0)
     if goal == 1:
         x.update(f=r.randint(1, 65_535), tau=r.randint(1, 8_784), P=r.randint(1, 65_535), S=r.randint(1, 10_000))
     return {**x, **fixed}
@@ -83,12 +83,6 @@ def thickness(x):
     """The first thickness that doesn't miss, with its verdict; or None."""
     required = need(x)
     return next(((k, v) for k in range(0, 301, 10) if (v := judge(have(x, k), required)) != MISSES), None)
-
-
-def loss_limit(x):
-    """The printed limit in tenths of W/m², or None."""
-    column, row = YEAR_ROUND if x["service"] == 1 else SEASONAL, x["t"] // 500 - 1
-    return 10 * column[row] if 0 <= row < len(column) else None
 
 
 def surface_limit(x):
@@ -199,7 +193,7 @@ def losing(r, goal, flat, k, by, wanted, **fixed):
     """A sheet of k mm that loses about so many tenths of W/m² above the limit; wanted: verdicts at the limit and beside it."""
     while True:
         x = fields(r, goal, flat, **fixed)
-        limit = loss_limit(x)
+        limit = loss_limit(x["service"], x["t"])
         for y in fitted(x, k, ratio(*loss_need(x, limit + by))[0]) if limit else []:
             if all(judge(have(y, k), ratio(*loss_need(y, limit + other))) == result for other, result in wanted.items()):
                 z = between(r, y, k)
@@ -208,18 +202,18 @@ def losing(r, goal, flat, k, by, wanted, **fixed):
 
 
 def close_loss(r, goal, flat, k, **fixed):
-    """A sheet of k mm that is too close to the printed loss."""
+    """A sheet of k mm that is too close to the loss limit."""
     return losing(r, goal, flat, k, 0, {0: OPEN}, **fixed)
 
 
 def within_loss(r, goal, flat, k, **fixed):
-    """A sheet of k mm that is within the printed loss and would be over 1 W/m² less."""
-    return losing(r, goal, flat, k, -3, {0: MEETS, -10: MISSES}, **fixed)
+    """A sheet of k mm that is within the limit and would be over a limit 0.1 W/m² lower."""
+    return losing(r, goal, flat, k, 0, {0: MEETS, -1: MISSES}, **fixed)
 
 
 def over_loss(r, goal, flat, k, **fixed):
-    """A sheet of k mm that is over the printed loss and would be within 1 W/m² more."""
-    return losing(r, goal, flat, k, 3, {0: MISSES, 10: MEETS}, **fixed)
+    """A sheet of k mm that is over the limit and would be within a limit 0.1 W/m² higher."""
+    return losing(r, goal, flat, k, 1, {0: MISSES, 1: MEETS}, **fixed)
 
 
 def close_surface(r, goal, flat, k, **fixed):

@@ -1,12 +1,13 @@
 #!/usr/bin/env python3
-"""The answer to a sheet by document 01, computed by itself: plain, slow and exact, sharing nothing with the crates.
+"""The answer to a sheet by documents 01 and 02, computed by itself: plain, slow and exact, sharing nothing with the crates.
 
     python3 tools/sheet.py goal service D t ta L alpha f tau P S aim
 
 prints the eight bytes of the answer, or the word refused and the refusal's number. t, ta and a surface aim may be negative.
 """
 import sys
-from math import isqrt
+from fractions import Fraction
+from math import floor, isqrt
 
 YEAR_ROUND = [58, 93, 116, 140, 163, 186, 209, 227, 244, 262, 279, 296, 314]
 SEASONAL = [116, 163, 203, 244, 273, 296, 308, 314]
@@ -43,6 +44,19 @@ def judge(h, n):
     return MEETS if h[0] >= n[1] else MISSES if h[1] < n[0] else OPEN
 
 
+def loss_limit(service, t):
+    """The limit in tenths of W/m², or None. Services 1 and 2 keep the row below, 3 and 4 read a straight line between two rows."""
+    column = YEAR_ROUND if service in (1, 3) else SEASONAL
+    row, beyond = t // 500 - 1, t % 500
+    if not 0 <= row < len(column):
+        return None
+    if service in (1, 2) or beyond == 0:
+        return 10 * column[row]
+    if row + 1 == len(column):
+        return None
+    return floor(10 * (column[row] + Fraction(beyond, 500) * (column[row + 1] - column[row])))
+
+
 def signed(x):
     return x - 65_536 if x >= 32_768 else x
 
@@ -54,7 +68,7 @@ def answer(sheet):
     goal, service = sheet[0], sheet[1]
     _, D, t, ta, L, alpha, f, tau, P, S, aim = (256 * sheet[i] + sheet[i + 1] for i in range(2, 24, 2))
     t, ta, surface = signed(t), signed(ta), signed(aim)
-    if goal not in (1, 2, 3) or service not in (1, 2):
+    if goal not in (1, 2, 3) or service not in (1, 2, 3, 4):
         return 12
     within = D >= 100 and -500 <= t <= 6_500 and -500 <= ta <= 500 and 1 <= L <= 2_000 and 100 <= alpha <= 10_000
     if goal == 1:
@@ -85,12 +99,8 @@ def answer(sheet):
     if verdict == OPEN:
         return 18
 
-    column = YEAR_ROUND if service == 1 else SEASONAL
-    row = t // 500 - 1
-    if 0 <= row < len(column):
-        loss = judge(h, ratio(n * L * delta * 10**5, 10 * column[row]))
-    else:
-        loss = 3
+    limit = loss_limit(service, t)
+    loss = 3 if limit is None else judge(h, ratio(n * L * delta * 10**5, limit))
     limit = 500 if ta <= 270 else ta + 250
     surface = MEETS if t <= limit else judge(h, ratio(n * L * delta * 10**7, alpha * (limit - ta)))
     bound = min(t, ta + up(n * L * 10**7 * delta, alpha * h[0])) % 65_536

@@ -84,7 +84,7 @@ def beyond(r):
 
 def unknown_code(r):
     """A goal or a service that is not known."""
-    name, known = r.choice([("goal", 3), ("service", 2)])
+    name, known = r.choice([("goal", 3), ("service", 4)])
     return [{**good(r), name: r.choice([0, known + 1, known + 2, 255, r.randint(known + 1, 255)])}]
 
 
@@ -156,23 +156,24 @@ def coldest_bound(r):
 
 
 def row_edge(r):
-    """A pipe at a temperature of the loss table, and a tenth below and above."""
+    """A pipe at a temperature of the loss table, a tenth below and above, and halfway to the next, for each service."""
     t = 500 * r.randint(1, 13)
     x = good(r, t=t)
-    y = {**x, "service": 3 - x["service"]}
-    return [{**z, "t": v} for z in (x, y) for v in (t - 1, t, t + 1) if v <= 6_500]
+    return [{**x, "service": service, "t": v} for service in (1, 2, 3, 4) for v in (t - 1, t, t + 1, t + 250) if v <= 6_500]
 
 
 def limit_edges(r):
-    """For each limit of the loss table, a sheet just within it and one just over it."""
-    return [side(r, 2, r.random() < 0.4, 40, service=service, t=min(t + r.choice([0, 499]), 6_500))
-            for service, last in ((1, 6_500), (2, 4_000)) for t in range(500, last + 1, 500) for side in (within_loss, over_loss)]
+    """For each service and row, a sheet just within a limit that is printed or read from there on, and one just over it."""
+    return [side(r, 2, r.random() < 0.4, 40, service=service, t=min(t + r.choice([0, r.randint(1, 498), 499]), last))
+            for service, last in ((1, 6_500), (2, 4_499), (3, 6_500), (4, 4_000)) for t in range(500, last + 1, 500)
+            for side in (within_loss, over_loss)]
 
 
 def no_limit(r):
     """No loss limit printed."""
     if r.random() < 0.5:
-        return [good(r, service=2, t=r.randint(4_500, 6_500))]
+        service, least = r.choice([(2, 4_500), (4, 4_001)])
+        return [good(r, service=service, t=r.randint(least, r.choice([4_500, 6_500])))]
     ta = r.randint(-500, 450)
     return [good(r, ta=ta, t=r.randint(ta + 2, 499))]
 
@@ -242,8 +243,9 @@ def exact(r):
 
 
 def loss_too_close(r):
-    """A loss check that is too close."""
-    return [close_loss(r, *kind(r), 10 * r.randint(0, 15))]
+    """A loss check that is too close. Under goal 3 bare pipe never meets, since the aim is below t."""
+    goal, flat = kind(r)
+    return [close_loss(r, goal, flat, 10 * r.randint(1 if goal == 3 else 0, 15))]
 
 
 def surface_too_close(r):
@@ -255,7 +257,7 @@ def several_faults(r):
     """Two or more fields made bad at once."""
     x = good(r)
     bad = int(x["goal"] != 1)
-    faults = [dict(goal=r.choice([0, 4])), dict(service=r.choice([0, 3])), dict(D=r.randint(0, 99)), dict(L=2_001),
+    faults = [dict(goal=r.choice([0, 4])), dict(service=r.choice([0, 5])), dict(D=r.randint(0, 99)), dict(L=2_001),
               dict(alpha=99), dict(P=bad), dict(f=bad), dict(t=x["ta"]), dict(t=x["ta"] - 1), dict(aim=1 - bad)]
     for fault in r.sample(faults, r.randint(2, 3)):
         x.update(fault)

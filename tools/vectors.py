@@ -1,5 +1,5 @@
 #!/usr/bin/env python3
-"""Named sheets with what document 01 demands of each: plain, slow and exact, sharing nothing with the crates.
+"""Named sheets with what documents 01 and 02 demand of each: plain, slow and exact, sharing nothing with the crates.
 
     python3 tools/vectors.py vectors > crates/vectors/stdin
     python3 tools/vectors.py expected > crates/vectors/stdout
@@ -16,8 +16,8 @@ from random import Random
 sys.dont_write_bytecode = True
 from listing import line
 from near import (aimed, allowed, between, chosen, close_loss, close_surface, economy_square, edge, fields, have, layer,
-                  loss_limit, loss_need, moved, open_at, over_loss, packed, surface_need, thickness, verdict, within_loss)
-from sheet import MEETS, MISSES, OPEN, SEASONAL, YEAR_ROUND, answer, judge, ratio, root, signed, up
+                  loss_need, moved, open_at, over_loss, packed, surface_need, thickness, verdict, within_loss)
+from sheet import MEETS, MISSES, OPEN, SEASONAL, YEAR_ROUND, answer, judge, loss_limit, ratio, root, signed, up
 
 UNUSED = dict(f=0, tau=0, P=0, S=0)
 ECONOMY = dict(goal=1, service=1, line=1, D=270, t=207, ta=70, L=333, alpha=2_048, f=7_500, tau=2_880, P=1_600, S=2_296, aim=0)
@@ -27,7 +27,7 @@ WARM = {**ECONOMY, "t": 1_500, "ta": 200}
 GOALS = [WARM, LOSS, SURFACE]
 F = dict(goal=2, service=1, line=7, D=12_000, t=1_300, ta=200, L=400, alpha=800, **UNUSED, aim=800)
 G = dict(goal=2, service=1, line=9, D=10_001, t=300, ta=200, L=400, alpha=1_163, **UNUSED, aim=1_163)
-SERVICES = {1: "year-round", 2: "seasonal"}
+SERVICES = {1: "year-round", 2: "seasonal", 3: "year-round-line", 4: "seasonal-line"}
 SHAPES = {False: "cylinder", True: "flat"}
 CHECKS = ["within", "over", "close", "none"]
 
@@ -83,12 +83,12 @@ def lengths():
 
 
 def codes():
-    """01: "12: goal or service code unknown"."""
+    """01: "12: goal or service code unknown"; 02, N2: "refusal 12 admits the two new codes"."""
     for goal in (0, 1, 2, 3, 4, 5, 129, 130, 255):
         x = {**(GOALS[goal - 1] if goal in (1, 2, 3) else LOSS), "goal": goal}
-        for service in (0, 1, 2, 3, 4, 129, 130, 255):
-            known = goal in (1, 2, 3) and service in (1, 2)
-            if goal in (1, 2, 3) or service in (1, 2):
+        for service in (0, 1, 2, 3, 4, 5, 129, 130, 255):
+            known = goal in (1, 2, 3) and service in SERVICES
+            if goal in (1, 2, 3) or service in SERVICES:
                 yield f"code-goal-{goal}-service-{service}", {**x, "service": service}, {} if known else 12
 
 
@@ -194,7 +194,7 @@ def two_cases():
 
     15 goes with neither 17 nor 18: where t is not above ta, need is not above zero and bare pipe meets it."""
     for x in GOALS:
-        cases = {12: dict(service=3), 13: dict(alpha=99), 14: dict(aim=1) if x["goal"] == 1 else dict(tau=1), 15: dict(t=200)}
+        cases = {12: dict(service=5), 13: dict(alpha=99), 14: dict(aim=1) if x["goal"] == 1 else dict(tau=1), 15: dict(t=200)}
         if x["goal"] != 1:
             cases[16] = dict(aim=0 if x["goal"] == 2 else 200)
         for first, second in combinations(cases, 2):
@@ -215,7 +215,7 @@ def two_cases():
     for name, x, last in (("loss", far, 17), ("surface", hot, 17), ("loss", G, 18)):
         yield f"case-{last}-{name}", x, last
         yield f"cases-11-and-{last}-{name}", packed(x) + b"\0", 11
-        yield f"cases-12-and-{last}-{name}", {**x, "service": 3}, 12
+        yield f"cases-12-and-{last}-{name}", {**x, "service": 5}, 12
         yield f"cases-13-and-{last}-{name}", {**x, "L": 2_001}, 13
         yield f"cases-14-and-{last}-{name}", {**x, "S": 1}, 14
     yield "cases-16-and-17-loss", {**far, "aim": 0}, 16
@@ -258,7 +258,7 @@ def rows():
                 check = 3 if printed is None else 1 if at < t and limit else 0
                 if at <= 6_500:
                     yield f"row-t-{at}-{SERVICES[service]}", {**x, "t": at}, dict(loss=check)
-    for t, ta in ((-1, -200), (0, -200), (1, -200), (-400, -500)):
+    for t, ta in ((-1, -200), (0, -200), (1, -200), (-400, -500), (300, 200)):
         for service in SERVICES:
             yield f"row-t-{word(t)}-{SERVICES[service]}", {**LOSS, "service": service, "t": t, "ta": ta}, dict(loss=3)
 
@@ -270,16 +270,40 @@ def walls(x, loss):
 
 
 def limits():
-    """01: "Limits in W/m² by t in °C (001, table 5.1.1), year-round / seasonal: 50: 58/116; ..." For each limit a sheet that is
-    within it, and would not be 1 W/m² lower, and one that is over it, and would not be 1 W/m² higher; at both ends of its row."""
+    """01: "Limits in W/m² by t in °C (001, table 5.1.1), year-round / seasonal: 50: 58/116; ..." For each limit two sheets, at both
+    ends of its row."""
     r = Random(511)
     for service, column in ((1, YEAR_ROUND), (2, SEASONAL)):
         for row, limit in enumerate(column):
             for t, flat in ((500 * (row + 1), True), (500 * (row + 1) + 499, False)):
                 if t <= 6_500:
-                    end = f"{limit}-t-{t}-{SERVICES[service]}"
-                    yield f"limit-within-{end}", within_loss(r, 2, flat, 40, service=service, t=t), dict(loss=0)
-                    yield f"limit-over-{end}", over_loss(r, 2, flat, 40, service=service, t=t), dict(loss=1)
+                    yield from beside_limit(r, service, t, 10 * limit, flat)
+
+
+def lines():
+    """02, N2: "a straight line between neighbouring rows of the loss table. The limit is in tenths of W/m², rounded down. At 130.0 °C
+    year-round it is 106.8." "Seasonal at 400.0 gives 314; above it none is printed." At the temperature of each row, a tenth below
+    and above it, and halfway to the next."""
+    r = Random(130)
+    for service, column in ((3, YEAR_ROUND), (4, SEASONAL)):
+        for t in [1_299, 1_300, 1_301, *(500 * row + by for row in range(1, 14) for by in (-1, 0, 1, 250))]:
+            if t <= 6_500:
+                limit = loss_limit(service, t)
+                assert (limit is not None) == (500 <= t <= 500 * len(column)), (service, t)
+                assert t != 1_300 or service != 3 or limit == 1_068
+                if limit is None:
+                    yield f"line-t-{t}-{SERVICES[service]}", chosen(r, 2, t % 2 == 0, 40, service=service, t=t), dict(loss=3)
+                else:
+                    yield from beside_limit(r, service, t, limit, t % 2 == 0)
+
+
+def beside_limit(r, service, t, limit, flat):
+    """A sheet that is within the limit, in tenths of W/m², and would be over one that is a tenth lower; and a sheet that is over it, and
+    would be within one that is a tenth higher."""
+    assert loss_limit(service, t) == limit, (service, t)
+    end = f"{limit}-t-{t}-{SERVICES[service]}"
+    yield f"limit-within-{end}", within_loss(r, 2, flat, 40, service=service, t=t), dict(loss=0)
+    yield f"limit-over-{end}", over_loss(r, 2, flat, 40, service=service, t=t), dict(loss=1)
 
 
 def surface_limits():
@@ -333,8 +357,11 @@ def both_close(r):
     """A small pipe for which both checks are too close: the two limits allow the same loss, and the conductivity is fitted."""
     while True:
         x, k = {**fields(r, 2, False), "D": r.randint(100, 150), "t": r.randint(510, 2_000)}, 10 * r.randint(1, 5)
-        limit = loss_limit(x)
-        rise = r.choice([s for s in range(230, 1_001) if 100 * limit % s == 0 and s <= limit])
+        limit = loss_limit(x["service"], x["t"])
+        rises = [s for s in range(230, 1_001) if 100 * limit % s == 0 and s <= limit]
+        if not rises:
+            continue
+        rise = r.choice(rises)
         x.update(ta=500 - rise, alpha=100 * limit // rise)
         n, d = loss_need({**x, "L": 1}, limit)
         x["L"] = up(layer(x, k)[0] * d * x["alpha"], n * x["alpha"] - 2 * 10**7 * d)
@@ -458,7 +485,7 @@ def worked():
 
 
 GROUPS = [diameters, economy, table_4, lengths, codes, ranges, single_bytes, unused, warmer, aims, around_zero, bounds, two_cases,
-          rows, limits, surface_limits, checks, rungs, open_rungs, edges, equal, wrong_turns, held, worked]
+          rows, limits, lines, surface_limits, checks, rungs, open_rungs, edges, equal, wrong_turns, held, worked]
 
 
 def vectors():

@@ -12,14 +12,14 @@ use Rattle.refusals.specs.Response.{respond}
 use Rattle.big_endian.specs.Bytes.{bigEndian, bytesOf}
 use Rattle.sheet.specs.Sheet.{decoded}
 use Rattle.sheet.specs.Ranges.{anyOutside}
-use Rattle.limits.specs.Limits.{highestNotAbove, lossLimit}
+use Rattle.limits.specs.Limits.{neighbours, lossLimit}
 use Rattle.sheet.specs.Answer.{encoded, lossCheck, surfaceCheck, surfaceBound, answerOf}
 use Rattle.book.specs.Book.{newBook, withSlots, withCount}
 use Rattle.book.specs.Refusals.{sameBytes}
 use Rattle.book.specs.Worked.{WorkedBook}
 
 pub worked-book : WorkedBook
-unfolding overlay lowerStep upperStep least insulation film insulationBounds filmBounds provided requirement enclosing firstNotInsufficient bigEndian bytesOf decoded highestNotAbove lossLimit lossCheck surfaceCheck surfaceBound encoded answerOf anyOutside respond newBook withSlots withCount sameBytes
+unfolding overlay lowerStep upperStep least insulation film insulationBounds filmBounds provided requirement enclosing firstNotInsufficient bigEndian bytesOf decoded neighbours lossLimit lossCheck surfaceCheck surfaceBound encoded answerOf anyOutside respond newBook withSlots withCount sameBytes
 worked-book =
     record {
       size = λ c. omega arith;

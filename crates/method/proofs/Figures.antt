@@ -12,14 +12,14 @@ use Rattle.refusals.specs.Response.{respond}
 use Rattle.big_endian.specs.Bytes.{bigEndian, bytesOf}
 use Rattle.sheet.specs.Sheet.{decoded}
 use Rattle.sheet.specs.Ranges.{anyOutside}
-use Rattle.limits.specs.Limits.{highestNotAbove, lossLimit}
+use Rattle.limits.specs.Limits.{neighbours, lossLimit}
 use Rattle.sheet.specs.Answer.{encoded, lossCheck, surfaceCheck, surfaceBound, answerOf}
 use Rattle.sheet.proofs.Examples.{low, high}
 use Rattle.book.specs.Refusals.{sameBytes}
-use Rattle.method.specs.Method.{Cylinder, Hotter, Between, FlatWall, Entry, Method}
+use Rattle.method.specs.Method.{Cylinder, Hotter, BetweenRows, Between, FlatWall, Entry, Method}
 
 the-cylinder : Cylinder
-unfolding summed lowerStep upperStep least insulation film insulationBounds filmBounds provided requirement enclosing firstNotInsufficient bigEndian bytesOf decoded highestNotAbove lossLimit lossCheck surfaceCheck surfaceBound encoded answerOf anyOutside respond
+unfolding summed lowerStep upperStep least insulation film insulationBounds filmBounds provided requirement enclosing firstNotInsufficient bigEndian bytesOf decoded neighbours lossLimit lossCheck surfaceCheck surfaceBound encoded answerOf anyOutside respond
 the-cylinder =
     record {
       signed = refl;
@@ -46,8 +46,12 @@ the-cylinder =
     }
 
 the-same-hotter : Hotter
-unfolding summed lowerStep upperStep least insulation film insulationBounds filmBounds provided requirement enclosing firstNotInsufficient bigEndian bytesOf decoded highestNotAbove lossLimit lossCheck surfaceCheck surfaceBound encoded answerOf anyOutside respond
+unfolding summed lowerStep upperStep least insulation film insulationBounds filmBounds provided requirement enclosing firstNotInsufficient bigEndian bytesOf decoded neighbours lossLimit lossCheck surfaceCheck surfaceBound encoded answerOf anyOutside respond
 the-same-hotter = record { required = refl; loss-limit = refl; loss-required = refl; surface-required = refl; bound = refl; answer = refl }
+
+between-rows : BetweenRows
+unfolding summed lowerStep upperStep least insulation film insulationBounds filmBounds provided requirement enclosing firstNotInsufficient bigEndian bytesOf decoded neighbours lossLimit lossCheck surfaceCheck surfaceBound encoded answerOf anyOutside respond
+between-rows = record { year-round-limit = (refl, refl); year-round-required = refl; year-round-answer = refl; seasonal-limit = (refl, refl); seasonal-required = refl; seasonal-answer = refl }
 
 between-millimetres : Between
 unfolding summed lowerStep upperStep
@@ -65,7 +69,7 @@ between-millimetres =
     }
 
 the-flat-wall : FlatWall
-unfolding summed cutSum lowerStep upperStep least insulation film insulationBounds filmBounds provided requirement enclosing firstNotInsufficient bigEndian bytesOf decoded highestNotAbove lossLimit lossCheck surfaceCheck surfaceBound encoded answerOf anyOutside respond
+unfolding summed cutSum lowerStep upperStep least insulation film insulationBounds filmBounds provided requirement enclosing firstNotInsufficient bigEndian bytesOf decoded neighbours lossLimit lossCheck surfaceCheck surfaceBound encoded answerOf anyOutside respond
 the-flat-wall =
     record {
       at-0 = refl;
@@ -81,7 +85,7 @@ the-flat-wall =
     }
 
 an-entry : Entry
-unfolding summed lowerStep upperStep least insulation film insulationBounds filmBounds provided requirement enclosing firstNotInsufficient bigEndian bytesOf decoded highestNotAbove lossLimit lossCheck surfaceCheck surfaceBound encoded answerOf anyOutside respond sameBytes
+unfolding summed lowerStep upperStep least insulation film insulationBounds filmBounds provided requirement enclosing firstNotInsufficient bigEndian bytesOf decoded neighbours lossLimit lossCheck surfaceCheck surfaceBound encoded answerOf anyOutside respond sameBytes
 an-entry = record { size = refl; places = (refl, refl, refl); sizes = (refl, refl); read = refl }
 
 pub method : Method
@@ -89,6 +93,7 @@ method =
     record {
       the-cylinder = the-cylinder;
       the-same-hotter = the-same-hotter;
+      between-rows = between-rows;
       between-millimetres = between-millimetres;
       the-flat-wall = the-flat-wall;
       an-entry = an-entry;

@@ -3,7 +3,7 @@
 use mathlib.Core.Path.{_≡_}
 use mathlib.Core.Bool.{Bool, true, false, cond, _&&_, and-eq-true-iff}
 use mathlib.Core.List.{List, []}
-use Prim.Native.Nat.{ℕ, _-_, _≤_}
+use Prim.Native.Nat.{ℕ, _-_, _≤_, _<_}
 use native.Mathlib.Nat.{pos-of-ne-zero}
 use native.Mathlib.Omega.{arith}
 use lib.Dec.{eqb, ltb}
@@ -54,7 +54,7 @@ admitted bytes f =
     let ambient = inside _ _ (temperature .rest) in
     let conductivity = inside _ _ (ambient .rest) in
     let coefficient = inside _ _ (conductivity .rest) in
-    let warmer = leb-false _ _ (f .1 .1 .1 .1 .0) in
+    let warmer : s .ambient < s .temperature = leb-false _ _ (f .1 .1 .1 .1 .0) in
     let near : difference s ≤ 7_000 = omega arith in
     record {
       service-from = service .least;

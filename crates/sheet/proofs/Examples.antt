@@ -19,9 +19,9 @@ use Rattle.balance.specs.Verdict.{firstNotInsufficient}
 use Rattle.big_endian.specs.Bytes.{bigEndian, bytesOf}
 use Rattle.sheet.specs.Sheet.{decoded}
 use Rattle.sheet.specs.Ranges.{anyOutside}
-use Rattle.limits.specs.Limits.{highestNotAbove, lossLimit}
+use Rattle.limits.specs.Limits.{neighbours, lossLimit}
 use Rattle.sheet.specs.Answer.{encoded, lossCheck, surfaceCheck, surfaceBound, answerOf}
-use Rattle.refusals.specs.Response.{complete, respond}
+use Rattle.refusals.specs.Response.{complete, refused, respond}
 use Rattle.sheet.specs.Refusals.{responseTo}
 use Rattle.sheet.specs.Worked.{Gives}
 
@@ -49,6 +49,12 @@ pub record Examples : Type 0 where
   -- too close to the loss limit; too close to the surface limit
   pub loss-close : Answers (sheetOf 2 1 12_000 600 200 100 145 60_000) (0 ∷ 2 ∷ 0 ∷ 0 ∷ 2 ∷ 1 ∷ 2 ∷ 88 ∷ [])
   pub surface-close : Answers (sheetOf 2 1 12_000 803 200 100 101 402) (0 ∷ 2 ∷ 0 ∷ 10 ∷ 0 ∷ 2 ∷ 1 ∷ 245 ∷ [])
+  -- "The loss check follows the service byte" (02, N2): over the row below 130.0 °C, within the line; at 400.1 °C within a row, no line
+  pub row-130 : Answers (sheetOf 2 1 12_000 1_300 200 400 1_163 1_060) (0 ∷ 2 ∷ 0 ∷ 40 ∷ 1 ∷ 0 ∷ 1 ∷ 32 ∷ [])
+  pub line-130 : Answers (sheetOf 2 3 12_000 1_300 200 400 1_163 1_060) (0 ∷ 2 ∷ 0 ∷ 40 ∷ 0 ∷ 0 ∷ 1 ∷ 32 ∷ [])
+  pub row-400-1 : Answers (sheetOf 2 2 12_000 4_001 200 400 1_163 3_000) (0 ∷ 2 ∷ 0 ∷ 50 ∷ 0 ∷ 0 ∷ 1 ∷ 189 ∷ [])
+  pub line-400-1 : Answers (sheetOf 2 4 12_000 4_001 200 400 1_163 3_000) (0 ∷ 2 ∷ 0 ∷ 50 ∷ 3 ∷ 0 ∷ 1 ∷ 189 ∷ [])
+  pub service-5 : responseTo (sheetOf 2 5 12_000 1_300 200 400 1_163 1_060) ≡ refused 12
 
 -- the economy requirement of both sheets: 14,402,025,000 × 7,500 × 333 × 2,880 × 137 / (1,600 × 2,296) under the root
 abbrev pub radicand : Fraction
@@ -63,7 +69,7 @@ high =
     (λ x lt. lt-of-le-of-lt (square-le {x = x} {y = 62_154_864} (radicand .den) (omega arith)) (omega arith)))
 
 pub examples : Examples
-unfolding summed lowerStep upperStep least insulation film insulationBounds filmBounds provided requirement enclosing firstNotInsufficient bigEndian bytesOf decoded highestNotAbove lossLimit lossCheck surfaceCheck surfaceBound encoded answerOf anyOutside respond
+unfolding summed lowerStep upperStep least insulation film insulationBounds filmBounds provided requirement enclosing firstNotInsufficient bigEndian bytesOf decoded neighbours lossLimit lossCheck surfaceCheck surfaceBound encoded answerOf anyOutside respond
 examples =
     record {
       economy-270 = (rw (low, high), rw (low, high));
@@ -73,4 +79,9 @@ examples =
       bare = refl;
       loss-close = refl;
       surface-close = refl;
+      row-130 = refl;
+      line-130 = refl;
+      row-400-1 = refl;
+      line-400-1 = refl;
+      service-5 = refl;
     }

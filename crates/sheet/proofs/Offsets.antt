@@ -24,7 +24,7 @@ abbrev economyAt : List ℕ → List Field
 economyAt b = unsignedAt b 14 1 65_535 ∷ unsignedAt b 16 1 8_784 ∷ unsignedAt b 18 1 65_535 ∷ unsignedAt b 20 1 10_000 ∷ []
 
 pub record Offsets (b : List ℕ) : Type 0 where
-  pub of-codes : codes (decoded b) ≡ byteAt b 0 1 3 ∷ byteAt b 1 1 2 ∷ []
+  pub of-codes : codes (decoded b) ≡ byteAt b 0 1 3 ∷ byteAt b 1 1 4 ∷ []
   pub of-economy : economyFields (decoded b) ≡ economyAt b
   pub of-ranges :
       ranges (decoded b) ≡

@@ -17,7 +17,7 @@ use Rattle.balance.specs.Verdict.{firstNotInsufficient}
 use Rattle.sheet.specs.declared.fields.Sheet.{Sheet}
 use Rattle.big_endian.specs.Bytes.{bigEndian, bytesOf}
 use Rattle.sheet.specs.Sheet.{decoded, surfaceAim, goalOf}
-use Rattle.limits.specs.Limits.{highestNotAbove, lossLimit}
+use Rattle.limits.specs.Limits.{neighbours, lossLimit}
 use Rattle.sheet.specs.Answer.{encoded, lossCheck, surfaceCheck, surfaceBound, answerOf, answer}
 use Rattle.sheet.specs.Refusals.{aimRefused, fieldCases, cases, responseTo}
 use Rattle.sheet.specs.Ranges.{anyOutside}
@@ -36,7 +36,7 @@ aim-at-t : (sheet : List ℕ) → let s = decoded sheet in s .goal ≡ 3 → sur
 aim-at-t sheet goal aim earlier = first-at 5 (cases sheet) (answer sheet) earlier (aim-refused (decoded sheet) goal aim)
 
 pub worked : Worked
-unfolding lowerStep upperStep least insulation film insulationBounds filmBounds provided requirement enclosing firstNotInsufficient bigEndian bytesOf decoded highestNotAbove lossLimit lossCheck surfaceCheck surfaceBound encoded answerOf anyOutside respond
+unfolding lowerStep upperStep least insulation film insulationBounds filmBounds provided requirement enclosing firstNotInsufficient bigEndian bytesOf decoded neighbours lossLimit lossCheck surfaceCheck surfaceBound encoded answerOf anyOutside respond
 worked =
     record {
       p1 = refl;

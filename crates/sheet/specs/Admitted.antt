@@ -8,7 +8,7 @@ use Rattle.sheet.specs.Sheet.{difference, goalOf}
 
 pub record Admitted (s : Sheet) : Type 0 where
   pub service-from : 1 ≤ s .service
-  pub service-to : s .service ≤ 2
+  pub service-to : s .service ≤ 4
   pub line : LineInRange (s .line)
   pub conductivity-from : 1 ≤ s .line .conductivity
   pub warmer : s .ambient < s .temperature

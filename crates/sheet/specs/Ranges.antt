@@ -25,9 +25,9 @@ unfoldable pub anyOutside : List Field → Bool
 anyOutside [] = false
 anyOutside (f ∷ fs) = outside f || anyOutside fs
 
--- "1 economy, 2 loss, 3 surface", "1 year-round, 2 seasonal"
+-- "1 economy, 2 loss, 3 surface", "1 year-round, 2 seasonal", and "service 3 (year-round) or 4 (seasonal)" (02, N2)
 abbrev pub codes : Sheet → List Field
-codes s = field 0 (s .goal) 1 3 ∷ field 1 (s .service) 1 2 ∷ []
+codes s = field 0 (s .goal) 1 3 ∷ field 1 (s .service) 1 4 ∷ []
 
 -- "Offsets 14–21 are used for goal 1 only": f, τ, P and S
 abbrev pub economyFields : Sheet → List Field

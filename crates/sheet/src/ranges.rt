@@ -13,7 +13,7 @@ impl Sheet {
     pub fn code_unknown(self) -> bool
         ensures { λ r. ⌜ r ≡ anyOutside (codes self) ⌝ }
     {
-        outside(self.goal, 1, 3) | outside(self.service, 1, 2)
+        outside(self.goal, 1, 3) | outside(self.service, 1, 4)
     }
 
     // Is a field outside its range?

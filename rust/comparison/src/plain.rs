@@ -84,14 +84,22 @@ pub enum Goal {
 
 pub const GOALS: [Goal; 3] = [Goal::Economy, Goal::Loss, Goal::Surface];
 
-/// 1 year-round, 2 seasonal.
+/// 1 year-round, 2 seasonal; 3 year-round and 4 seasonal with "a straight line
+/// between neighbouring rows of the loss table".
 #[derive(Clone, Copy, Debug, PartialEq, Eq)]
 pub enum Service {
     YearRound = 1,
     Seasonal = 2,
+    YearRoundLine = 3,
+    SeasonalLine = 4,
 }
 
-pub const SERVICES: [Service; 2] = [Service::YearRound, Service::Seasonal];
+pub const SERVICES: [Service; 4] = [
+    Service::YearRound,
+    Service::Seasonal,
+    Service::YearRoundLine,
+    Service::SeasonalLine,
+];
 
 /// Byte 1 of the answer: 1 cylinder, 2 flat.
 #[derive(Clone, Copy, Debug, PartialEq, Eq)]
@@ -525,16 +533,43 @@ pub const LOSS_LIMITS: [LossLimit; 13] = [
     year_round_only(650, 314),
 ];
 
-/// "The row is the highest one not above t." In tenths of W/m².
+impl LossLimit {
+    /// t in tenths of a degree.
+    fn tenths(&self) -> i16 {
+        10 * self.temperature
+    }
+
+    /// The printed limit in tenths of W/m².
+    fn printed(&self, service: Service) -> Option<u16> {
+        let watts = match service {
+            Service::YearRound | Service::YearRoundLine => self.year_round,
+            Service::Seasonal | Service::SeasonalLine => self.seasonal,
+        };
+        watts.map(|watts| 10 * watts)
+    }
+}
+
+/// "The row is the highest one not above t." In tenths of W/m². "Services 1 and
+/// 2 keep the row below"; 3 and 4 read the line above it.
 pub fn loss_limit(service: Service, pipe_temperature: i16) -> Option<u16> {
-    let row = LOSS_LIMITS
-        .iter()
-        .rfind(|row| 10 * row.temperature <= pipe_temperature)?;
-    let limit = match service {
-        Service::YearRound => row.year_round,
-        Service::Seasonal => row.seasonal,
-    };
-    limit.map(|watts| 10 * watts)
+    let count = LOSS_LIMITS.partition_point(|row| row.tenths() <= pipe_temperature);
+    let (not_above, above) = LOSS_LIMITS.split_at(count);
+    let row = not_above.last()?;
+    let line = matches!(service, Service::YearRoundLine | Service::SeasonalLine);
+    if line && row.tenths() < pipe_temperature {
+        on_line(service, (row, above.first()?), pipe_temperature)
+    } else {
+        row.printed(service)
+    }
+}
+
+/// "The limit is in tenths of W/m², rounded down." The limits rise with t.
+fn on_line(service: Service, rows: (&LossLimit, &LossLimit), pipe_temperature: i16) -> Option<u16> {
+    let (low, high) = (rows.0.printed(service)?, rows.1.printed(service)?);
+    let width = u32::from(rows.1.tenths().abs_diff(rows.0.tenths()));
+    let beyond = u32::from(pipe_temperature.abs_diff(rows.0.tenths()));
+    let rise = u32::from(high - low) * beyond / width;
+    Some(low + u16::try_from(rise).expect("at most the next row's"))
 }
 
 /// "Surface limit: 50.0 °C for ta up to 27.0, else ta + 25.0."

@@ -7,7 +7,7 @@ mod ordinary;
 mod random;
 mod refused;
 
-pub use draft::{put, Draft};
+pub use draft::{put, put_field, Draft};
 pub use random::Random;
 
 use std::collections::VecDeque;

@@ -106,7 +106,7 @@ fn assert_every_check(spread: &Spread, service: u16, shape: u16) {
         spread.assert_at_least(10_000, ("surface check", service, shape, code.into()));
     }
     for check in ["loss check", "surface check"] {
-        spread.assert_at_least(200, (check, service, shape, plain::TOO_CLOSE.into()));
+        spread.assert_at_least(100, (check, service, shape, plain::TOO_CLOSE.into()));
     }
 }
 

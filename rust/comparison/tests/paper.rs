@@ -88,6 +88,25 @@ fn limits() {
 }
 
 #[test]
+fn limits_between_rows() {
+    let year_round = |t| plain::loss_limit(Service::YearRoundLine, t);
+    let seasonal = |t| plain::loss_limit(Service::SeasonalLine, t);
+    assert_eq!(year_round(1_300), Some(1_068));
+    assert_eq!(seasonal(4_000), Some(3_140));
+    assert_eq!((seasonal(4_001), seasonal(4_499)), (None, None));
+    assert_eq!((year_round(499), seasonal(499)), (None, None));
+    assert_eq!(year_round(6_500), Some(3_140));
+    for row in &plain::LOSS_LIMITS {
+        let (year_round, seasonal) = (
+            year_round(10 * row.temperature),
+            seasonal(10 * row.temperature),
+        );
+        assert_eq!(year_round, row.year_round.map(|watts| 10 * watts));
+        assert_eq!(seasonal, row.seasonal.map(|watts| 10 * watts));
+    }
+}
+
+#[test]
 fn shapes() {
     for (diameter, shape) in [(10_000, 1), (10_001, 2)] {
         let answer = both::answer(&economy(diameter)).unwrap();

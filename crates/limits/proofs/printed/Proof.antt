@@ -1,5 +1,6 @@
 -- The limit in a row and a column meets its contract: the code's table is the printed one.
 -- Assumes nothing.
+use Prim.Native.Nat.{suc}
 use native.Mathlib.Omega.{arith}
 use Rattle.limits.specs.Limits.{table}
 use Rattle.limits.proofs.Rows.{read, limit-small}
@@ -27,7 +28,7 @@ returns c =
     let a = c .before .args in
     let pre = c .before .pre in
     let is = read table (a .row) (a .service) (pre .0) (pre .1) (pre .2) in
-    (is, omega (arith, is, limit-small (a .row) (a .service)))
+    (is, omega (arith, is, limit-small (a .service) (suc (a .row)) (pre .0)))
 
 pub printed-spec : {M : Type 1} → statement M
 printed-spec =

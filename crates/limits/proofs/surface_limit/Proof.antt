@@ -1,5 +1,8 @@
 -- `surface_limit` meets its contract.
 -- Assumes nothing.
+use mathlib.Core.Path.{_≡_}
+use mathlib.Core.Bool.{true, false}
+use lib.Dec.{leb}
 use borrow.Author.Tests.{le-leb, lt-leb}
 use borrow.Author.Needs.{needs}
 use Rattle.limits.proofs.surface_limit.Statement.{statement}
@@ -15,10 +18,14 @@ add-result-2 : tie.Need-add-result-2
 add-result-2 c = search needs
 
 returns : tie.Need-returns
-returns c = simp (le-leb _ _ (c .if1 .taken))
+returns c =
+    let low : leb (c .before .args .ambient) 33_038 ≡ true = le-leb _ _ (c .if1 .taken) in
+    simp low
 
 returns-2 : tie.Need-returns-2
-returns-2 c = simp (lt-leb _ _ (c .if1 .left))
+returns-2 c =
+    let high : leb (c .before .args .ambient) 33_038 ≡ false = lt-leb _ _ (c .if1 .left) in
+    simp high
 
 pub surface-limit-spec : {M : Type 1} → statement M
 surface-limit-spec = tie.close (tie.spec add-if1 add-result add-result-2 returns returns-2)

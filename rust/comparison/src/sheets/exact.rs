@@ -143,17 +143,15 @@ fn surface_wall(random: &mut Random) -> Option<Draft> {
     Some(wall.draft(random, Goal::Surface, (pipe, air), air + above_air))
 }
 
-/// Need at the printed limit equals have. The aim is one above the limit.
+/// Need at the loss limit equals have. The aim is one above the limit.
 fn loss_limit_wall(random: &mut Random) -> Option<Draft> {
     let wall = Wall::any(random);
-    let row = random.below(plain::LOSS_LIMITS.len());
-    let least = 10 * plain::LOSS_LIMITS[row].temperature;
+    let least = 10 * i32::from(plain::LOSS_LIMITS[0].temperature);
+    let pipe = random.between(least, plain::PIPE_TEMPERATURE.greatest);
     let service = random.pick(&plain::SERVICES);
-    let limit = plain::loss_limit(service, least)?.into();
+    let limit = plain::loss_limit(service, pipe as i16)?.into();
     let rise = whole_rise(wall.loss_ratio(), limit)?;
-    // The rows are 50.0 °C apart.
-    let greatest = plain::PIPE_TEMPERATURE.greatest.min(i32::from(least) + 499);
-    let temperatures = temperatures_within(random, rise, (least.into(), greatest))?;
+    let temperatures = temperatures_within(random, rise, (pipe, pipe))?;
     let mut draft = wall.draft(random, Goal::Loss, temperatures, limit + 1);
     draft[plain::SERVICE_OFFSET] = service as u8;
     Some(draft)

@@ -62,14 +62,15 @@ pub fn diameter_edge(random: &mut Random, sheets: &mut Batch) {
     }
 }
 
-/// Temperatures at a row of the loss table and a tenth beside it.
+/// Temperatures at a row of the loss table, a tenth beside it, and halfway to
+/// the next row.
 pub fn table_row(random: &mut Random, sheets: &mut Batch) {
     let row = &plain::LOSS_LIMITS[random.below(plain::LOSS_LIMITS.len())];
     let (goal, _, shape) = any_sort(random);
     for service in plain::SERVICES {
-        for tenth in [-1, 0, 1] {
+        for tenths in [-1, 0, 1, 250] {
             let mut draft = office_draft(random, (goal, service, shape));
-            let pipe = 10 * i32::from(row.temperature) + tenth;
+            let pipe = 10 * i32::from(row.temperature) + tenths;
             put_field(&mut draft, plain::PIPE_TEMPERATURE, pipe);
             put_any_aim(random, &mut draft);
             sheets.push(draft.to_vec());

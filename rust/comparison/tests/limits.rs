@@ -1,0 +1,66 @@
+//! The loss limit at every temperature, for every service: the answers to two
+//! sheets leave only one limit, to the tenth of a W/m².
+
+use comparison::both;
+use comparison::plain::{self, Goal, Service, NONE_PRINTED, OVER, WITHIN};
+use comparison::sheets::{put, put_field, Draft};
+
+/// A flat wall of 0.1 W/(m·K) for a loss.
+fn wall(service: Service, pipe: i32, air: i32, coefficient: i32, aim: i32) -> Draft {
+    let mut draft = [0; plain::SHEET_LENGTH];
+    draft[plain::GOAL_OFFSET] = Goal::Loss as u8;
+    draft[plain::SERVICE_OFFSET] = service as u8;
+    put_field(&mut draft, plain::DIAMETER, 20_000);
+    put_field(&mut draft, plain::PIPE_TEMPERATURE, pipe);
+    put_field(&mut draft, plain::AIR_TEMPERATURE, air);
+    put_field(&mut draft, plain::CONDUCTIVITY, 1_000);
+    put_field(&mut draft, plain::COEFFICIENT, coefficient);
+    put(&mut draft, plain::AIM_OFFSET, aim);
+    draft
+}
+
+/// The wall that has hardly more than it needs for a loss: α is the greatest
+/// for which the film, 1 to 11 mm, makes up what whole rungs lack. It would be
+/// over a loss of a tenth less.
+fn hardly_within(service: Service, pipe: i32, loss: i32) -> Draft {
+    let need = 100_000_000 * i64::from(pipe);
+    let need = (need + i64::from(loss) - 1) / i64::from(loss);
+    let layer = (need - 1_000_000) / 10_000_000 * 10_000_000;
+    let coefficient = 10_000_000_000 / (need - layer);
+    let have = layer + 10_000_000_000 / coefficient;
+    assert!(have >= need && have < 100_000_000 * i64::from(pipe) / i64::from(loss - 1) - 1);
+    wall(service, pipe, 0, coefficient as i32, loss)
+}
+
+fn loss_check(sheet: &Draft) -> u8 {
+    both::answer(sheet).expect("a thickness")[4]
+}
+
+fn assert_limit(service: Service, pipe: i32, limit: i32) {
+    assert_eq!(
+        loss_check(&hardly_within(service, pipe, limit)),
+        WITHIN,
+        "{service:?} at {pipe}"
+    );
+    assert_eq!(
+        loss_check(&hardly_within(service, pipe, limit + 1)),
+        OVER,
+        "{service:?} at {pipe}"
+    );
+}
+
+#[test]
+fn at_every_temperature() {
+    let least = plain::PIPE_TEMPERATURE.least + 1;
+    for service in plain::SERVICES {
+        for pipe in least..=plain::PIPE_TEMPERATURE.greatest {
+            match plain::loss_limit(service, pipe as i16) {
+                Some(limit) => assert_limit(service, pipe, limit.into()),
+                None => {
+                    let bare = wall(service, pipe, plain::AIR_TEMPERATURE.least, 1_000, 65_535);
+                    assert_eq!(loss_check(&bare), NONE_PRINTED, "{service:?} at {pipe}");
+                }
+            }
+        }
+    }
+}
