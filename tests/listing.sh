@@ -34,8 +34,10 @@ repeat() {
     done
 }
 
-$listing <examples/plant.sheets >"$made/out"
-expect 'the plant' <examples/plant.txt
+for example in plant rows; do
+    $listing <examples/$example.sheets >"$made/out"
+    expect "the example $example" <examples/$example.txt
+done
 
 { F; G; } | $listing >"$made/out"
 printf '%s\n' "$header" "$lineF" "$lineG" | expect 'F then G'
