@@ -7,7 +7,7 @@ import sys
 
 ECONOMY, LOSS, SURFACE = 1, 2, 3
 YEAR, SEASON = 1, 2
-YLINE, SLINE = 3, 4  # the same, with the loss limit on a straight line between the rows
+YEAR_I, SEAS_I = 3, 4  # the same, with the loss limit interpolated between the rows
 
 # By column: line; goal; service; diameter, mm; pipe and air, °C; conductivity, W/(m·K); surface coefficient, W/(m²·K);
 # heat price, yuan/GJ; hours a year; insulation price, yuan/m³; yearly share; aim, W/m² for a loss and °C for a surface.
@@ -20,11 +20,11 @@ SHEETS = [
     (120, ECONOMY, YEAR,    108.0,  95.0,  20.0, 0.0420, 11.63, 55.00, 8000, 1600, 0.2296,     0),  # condensate line
     (130, ECONOMY, YEAR,    426.0, 130.0,  20.0, 0.0430, 11.63, 55.00, 6000, 1600, 0.2296,     0),  # hot water supply
     (131, ECONOMY, YEAR,    426.0,  70.0,  20.0, 0.0400, 11.63, 55.00, 6000, 1600, 0.2296,     0),  # hot water return
-    (132, LOSS,    YEAR,    426.0, 130.0,  20.0, 0.0430, 11.63,     0,    0,    0,      0, 106.8),  # supply, at the line's limit
-    (133, LOSS,    YLINE,   426.0, 130.0,  20.0, 0.0430, 11.63,     0,    0,    0,      0, 106.8),  # and checked against it
+    (132, LOSS,    YEAR,    426.0, 130.0,  20.0, 0.0430, 11.63,     0,    0,    0,      0, 106.8),  # supply, for the loss between two rows
+    (133, LOSS,    YEAR_I,  426.0, 130.0,  20.0, 0.0430, 11.63,     0,    0,    0,      0, 106.8),  # the same, checked between them
     (140, ECONOMY, SEASON,  325.0, 110.0,  -5.0, 0.0350, 11.63, 75.00, 2880, 1600, 0.2296,     0),  # heating line, supply
     (141, LOSS,    SEASON,  325.0,  70.0,  -5.0, 0.0350, 11.63,     0,    0,    0,      0, 100.0),  # heating line, return
-    (142, LOSS,    SLINE,   325.0, 110.0,  -5.0, 0.0350, 11.63,     0,    0,    0,      0, 171.0),  # supply, at the line's limit
+    (142, LOSS,    SEAS_I,  325.0, 110.0,  -5.0, 0.0350, 11.63,     0,    0,    0,      0, 171.0),  # supply, checked between two rows
     (150, LOSS,    YEAR,   1600.0, 320.0,  30.0, 0.0520, 11.63,     0,    0,    0,      0, 180.0),  # hot air duct, flat
     (151, SURFACE, YEAR,   2400.0, 150.0,  30.0, 0.0450, 11.63,     0,    0,    0,      0,  45.0),  # flue gas duct, flat
     (152, LOSS,    YEAR,   2400.0, 150.0,  30.0, 0.0450, 11.63,     0,    0,    0,      0, 400.0),  # flue gas duct, thinner

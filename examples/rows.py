@@ -1,5 +1,6 @@
 #!/usr/bin/env python3
-"""A duct with each service, at the temperature of each row of the loss table, a tenth below and above it, and halfway to the next.
+"""A duct with each service, at the temperature of each row of the loss table, a tenth below and above it, and halfway to the next; and
+around 130.0 °C.
 
     python3 examples/rows.py > examples/rows.sheets
 """
@@ -15,5 +16,5 @@ def sheet(service, t):
     return bytes([LOSS, service]) + b"".join(x.to_bytes(2, "big") for x in fields)
 
 
-TEMPERATURES = [500 * row + by for row in range(1, 14) for by in (-1, 0, 1, 250)]
+TEMPERATURES = sorted([1_299, 1_300, 1_301, *(500 * row + by for row in range(1, 14) for by in (-1, 0, 1, 250))])
 sys.stdout.buffer.write(b"".join(sheet(service, t) for service in AIMS for t in TEMPERATURES if t <= 6_500))

@@ -27,7 +27,7 @@ WARM = {**ECONOMY, "t": 1_500, "ta": 200}
 GOALS = [WARM, LOSS, SURFACE]
 F = dict(goal=2, service=1, line=7, D=12_000, t=1_300, ta=200, L=400, alpha=800, **UNUSED, aim=800)
 G = dict(goal=2, service=1, line=9, D=10_001, t=300, ta=200, L=400, alpha=1_163, **UNUSED, aim=1_163)
-SERVICES = {1: "year-round", 2: "seasonal", 3: "year-round-line", 4: "seasonal-line"}
+SERVICES = {1: "year-round", 2: "seasonal", 3: "year-round-interpolated", 4: "seasonal-interpolated"}
 SHAPES = {False: "cylinder", True: "flat"}
 CHECKS = ["within", "over", "close", "none"]
 
@@ -270,8 +270,8 @@ def walls(x, loss):
 
 
 def limits():
-    """01: "Limits in W/m² by t in °C (001, table 5.1.1), year-round / seasonal: 50: 58/116; ..." For each limit two sheets, at both
-    ends of its row."""
+    """01: "Limits in W/m² by t in °C (001, table 5.1.1), year-round / seasonal: 50: 58/116; ..." For each limit two sheets at each
+    end of its row, as far as t goes."""
     r = Random(511)
     for service, column in ((1, YEAR_ROUND), (2, SEASONAL)):
         for row, limit in enumerate(column):
@@ -280,21 +280,19 @@ def limits():
                     yield from beside_limit(r, service, t, 10 * limit, flat)
 
 
-def lines():
+def interpolated_limits():
     """02, N2: "a straight line between neighbouring rows of the loss table. The limit is in tenths of W/m², rounded down. At 130.0 °C
     year-round it is 106.8." "Seasonal at 400.0 gives 314; above it none is printed." At the temperature of each row, a tenth below
-    and above it, and halfway to the next."""
+    and above it, and halfway to the next; and around 130.0 °C."""
     r = Random(130)
     for service, column in ((3, YEAR_ROUND), (4, SEASONAL)):
         for t in [1_299, 1_300, 1_301, *(500 * row + by for row in range(1, 14) for by in (-1, 0, 1, 250))]:
-            if t <= 6_500:
-                limit = loss_limit(service, t)
-                assert (limit is not None) == (500 <= t <= 500 * len(column)), (service, t)
-                assert t != 1_300 or service != 3 or limit == 1_068
-                if limit is None:
-                    yield f"line-t-{t}-{SERVICES[service]}", chosen(r, 2, t % 2 == 0, 40, service=service, t=t), dict(loss=3)
-                else:
-                    yield from beside_limit(r, service, t, limit, t % 2 == 0)
+            if 500 <= t <= 500 * len(column):
+                row, beyond = divmod(t - 500, 500)
+                both = 10 * column[row] * (500 - beyond) + (10 * column[row + 1] * beyond if beyond else 0)
+                yield from beside_limit(r, service, t, 1_068 if (service, t) == (3, 1_300) else both // 500, t % 2 == 0)
+            elif t <= 6_500:
+                yield f"no-limit-t-{t}-{SERVICES[service]}", chosen(r, 2, t % 2 == 0, 40, service=service, t=t), dict(loss=3)
 
 
 def beside_limit(r, service, t, limit, flat):
@@ -485,7 +483,7 @@ def worked():
 
 
 GROUPS = [diameters, economy, table_4, lengths, codes, ranges, single_bytes, unused, warmer, aims, around_zero, bounds, two_cases,
-          rows, limits, lines, surface_limits, checks, rungs, open_rungs, edges, equal, wrong_turns, held, worked]
+          rows, limits, interpolated_limits, surface_limits, checks, rungs, open_rungs, edges, equal, wrong_turns, held, worked]
 
 
 def vectors():

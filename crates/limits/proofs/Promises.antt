@@ -1,148 +1,118 @@
 -- What is promised of the loss limits.
 -- Assumes nothing.
-use mathlib.Core.Path.{_≡_, refl, sym, ap, _∙_}
-use mathlib.Core.Bool.{Bool, true, false, cond, _||_, or-true}
-use Prim.Native.Nat.{ℕ, zero, suc, _+_, _-_, _*_, _≤_, _<_}
-use native.Mathlib.Nat.{mul-add, sub-add-cancel, mul-le-mul-right}
+use mathlib.Core.Path.{_≡_, _∙_}
+use mathlib.Core.Bool.{_||_, or-true}
+use mathlib.Core.Logic.{inl, inr}
+use Prim.Native.Nat.{ℕ, suc, min, _+_, _-_, _*_, _≤_, _<_}
+use native.Mathlib.Nat.{mul-add, sub-add-cancel, mul-le-mul-right, eq-or-lt-of-le}
 use native.Mathlib.Omega.{arith}
-use lib.Dec.{leb, ltb, eqb}
-use lib.ListN.{length, getD}
-use borrow.Author.Tests.{le-leb, ltb-true, leb-true, leb-false, eqb-true, eqb-false, ne-eqb}
+use lib.Dec.{leb, eqb}
+use borrow.Author.Tests.{le-leb, lt-leb, ne-eqb}
+use borrow.Enum.Match.{AllBelow, each-below}
 use Rattle.big_endian.specs.Bytes.{zeroDegrees}
-use Rattle.limits.specs.Limits.{table, unprinted, at, tenths, neighbours, interpolated, lossLimit}
-use Rattle.limits.specs.Promises.{PrintedTo, Promises}
-use Rattle.limits.proofs.Rows.{nth, allBelow, each, side, rowsUpTo, nth-at, rows-about, limitAt, limit-at, unlimited, none-below}
-
-about : (t : ℕ) → zeroDegrees + 500 ≤ t → t < zeroDegrees + 6_500 → let rows = neighbours t unprinted table in (at (rows .below) ≤ t) × (t < at (rows .above))
-about t from to =
-    let n = rowsUpTo t in
-    rw (rows-about t (omega arith), nth-at n (omega arith), nth-at (suc n) (omega arith)) (omega arith, omega arith)
-
-nearest :
-    (t i : ℕ) → t ≤ zeroDegrees + 6_500 → i < length table →
-    let rows = neighbours t unprinted table in
-    let r = getD table i unprinted in
-    (at r ≤ t → at r ≤ at (rows .below)) × (t < at r → at (rows .above) ≤ at r)
-nearest t i le lt =
-    let n = rowsUpTo t in
-    rw (rows-about t le, nth-at n (omega arith), nth-at (suc i) lt) (λ up. omega arith, λ down. omega (arith, nth-at (suc n) (omega arith)))
-
-row-below : (service t : ℕ) → service ≤ 2 → lossLimit service t ≡ tenths service (neighbours t unprinted table .below)
-unfolding lossLimit
-row-below service t le = rw (le-leb service 2 le)
-
-at-row : (service i : ℕ) → i < length table → let r = getD table i unprinted in lossLimit service (at r) ≡ tenths service r
-at-row service i lt =
-    let t = zeroDegrees + 500 * suc i in
-    let row : rowsUpTo t ≡ suc i = omega arith in
-    let here : t - t ≡ 0 = omega arith in
-    rw (nth-at (suc i) lt) (limit-at service t (omega arith) ∙ rw (row, here, or-true))
+use Rattle.limits.specs.Limits.{limitOf, interpolated, lossLimit}
+use Rattle.limits.specs.Promises.{LimitedTo, Promises}
+use Rattle.limits.proofs.Rows.{nth, nth-at, each-limit, rowsUpTo, beyond, limit-at, chosen, none-from, none-below}
 
 -- The limits rise from row to row, as far as they are printed.
-rises : (yearRound : Bool) → allBelow (λ n. eqb (side yearRound (nth (suc n))) 0 || leb (side yearRound (nth n)) (side yearRound (nth (suc n)))) 14 ≡ true
-unfolding allBelow
-rises true = refl
-rises false = refl
-
-rising : (service n : ℕ) → n ≤ 13 → 0 < tenths service (nth (suc n)) → tenths service (nth n) ≤ tenths service (nth (suc n))
-rising service n le printed =
-    let y = eqb service 1 || eqb service 3 in
-    let here = side y (nth n) in
-    let next = side y (nth (suc n)) in
-    let test = each (λ n. eqb (side y (nth (suc n))) 0 || leb (side y (nth n)) (side y (nth (suc n)))) 14 (rises y) n (omega arith) in
-    let some = ne-eqb next 0 (λ none. omega (arith, printed, none)) in
-    let up = leb-true here next (rw some at test) in
-    omega arith
+rising : (service n : ℕ) → n ≤ 13 → 0 < limitOf service (nth (suc n)) → limitOf service (nth n) ≤ limitOf service (nth (suc n))
+rising = each-limit (λ limit n. 0 < 10 * limit (nth (suc n)) → 10 * limit (nth n) ≤ 10 * limit (nth (suc n))) (omega arith) (omega arith)
 
 -- A straight line between two limits lies between them.
 on-line : (low high x : ℕ) → 0 < low → low ≤ high → x ≤ 500 → (low ≤ interpolated low high 500 x) × (interpolated low high 500 x ≤ high)
-on-line low high x some up near = rw (ne-eqb low 0 (λ e. omega arith), ne-eqb high 0 (λ e. omega arith)) (omega (arith, whole low, mul-le-mul-right x up), omega (arith, whole high, mul-le-mul-right (500 - x) up))
+on-line low high x some up near =
+    rw (ne-eqb low 0 (λ e. omega arith), ne-eqb high 0 (λ e. omega arith))
+    (omega (arith, whole low, mul-le-mul-right x up), omega (arith, whole high, mul-le-mul-right (500 - x) up))
   where
     whole : (y : ℕ) → y * (500 - x) + y * x ≡ y * 500
-    whole y = sym (mul-add y (500 - x) x) ∙ ap (λ (z : ℕ). y * z) (sub-add-cancel near)
+    whole y = rw (← mul-add y (500 - x) x, sub-add-cancel near)
 
 limit-between :
-    (service n x : ℕ) → n ≤ 13 → x ≤ 500 → let low = tenths service (nth n) in let high = tenths service (nth (suc n)) in
-    0 < low → 0 < high → (low ≤ limitAt service n x) × (limitAt service n x ≤ high)
-limit-between service n x le near low high = go (leb service 2 || eqb x 0)
-  where
-    up : tenths service (nth n) ≤ tenths service (nth (suc n))
-    up = rising service n le high
-
-    line : ℕ
-    line = interpolated (tenths service (nth n)) (tenths service (nth (suc n))) 500 x
-
-    go : (b : Bool) → (tenths service (nth n) ≤ cond b (tenths service (nth n)) line) × (cond b (tenths service (nth n)) line ≤ tenths service (nth (suc n)))
-    go true = (omega arith, up)
-    go false = on-line (tenths service (nth n)) (tenths service (nth (suc n))) x low up near
-
-between :
     (service t : ℕ) → t ≤ zeroDegrees + 6_500 →
-    let rows = neighbours t unprinted table in
-    let low = tenths service (rows .below) in
-    let high = tenths service (rows .above) in
+    let low = limitOf service (nth (rowsUpTo t)) in
+    let high = limitOf service (nth (suc (rowsUpTo t))) in
     0 < low → 0 < high → (low ≤ lossLimit service t) × (lossLimit service t ≤ high)
-between service t le low high =
-    let about = rows-about t le in
-    rw (about, limit-at service t le) (limit-between service (rowsUpTo t) (t - (zeroDegrees + 500 * rowsUpTo t)) (omega arith) (omega arith) (rw about at low) (rw about at high))
+limit-between service t le some next =
+    let low = limitOf service (nth (rowsUpTo t)) in
+    let high = limitOf service (nth (suc (rowsUpTo t))) in
+    let up = rising service (rowsUpTo t) (omega arith) next in
+    let line = on-line low high (beyond t) some up (omega arith) in
+    rw (limit-at service t le) (chosen (λ limit. (low ≤ limit) × (limit ≤ high)) (leb service 2 || eqb (beyond t) 0) (omega arith, up) line)
 
--- Of a service whose limits are printed up to row `last` and not after it.
-module _ (service last : ℕ) (printed : allBelow (λ n. ltb 0 (tenths service (nth (suc n)))) last ≡ true) (blank : allBelow (λ n. eqb (tenths service (nth (suc last + n))) 0) (14 - last) ≡ true) where
-  some-in : (n : ℕ) → 1 ≤ n → n ≤ last → 0 < tenths service (nth n)
-  some-in zero from to = absurd (omega arith)
-  some-in (suc n) from to = ltb-true 0 _ (each (λ n. ltb 0 (tenths service (nth (suc n)))) last printed n to)
+-- Limits are printed in rows 1 to `last`, and in none after it.
+abbrev Some : ℕ → ℕ → ℕ → Type 0
+Some service last n = 1 ≤ n → n ≤ last → 0 < limitOf service (nth n)
 
-  none-in : (n : ℕ) → last < n → n ≤ 14 → tenths service (nth n) ≡ 0
-  none-in n lt le =
-      let place : suc last + (n - suc last) ≡ n = omega arith in
-      let test = each (λ n. eqb (tenths service (nth (suc last + n))) 0) (14 - last) blank (n - suc last) (omega arith) in
-      eqb-true (tenths service (nth n)) 0 (rw place at test)
+abbrev None : ℕ → ℕ → ℕ → Type 0
+None service last n = last < n → limitOf service (nth n) ≡ 0
 
-  some-to : last ≤ 13 → (t : ℕ) → zeroDegrees + 500 ≤ t → t ≤ zeroDegrees + 500 * last → 0 < lossLimit service t
-  some-to most t from to = rw (limit-at service t (omega arith)) (go (eqb x 0) refl)
-    where
-      n : ℕ
-      n = rowsUpTo t
+module _ (service last : ℕ) (most : last ≤ 13) (some : AllBelow 14 (Some service last)) (none : AllBelow 15 (None service last)) where
+  some-in : (n : ℕ) → n ≤ 13 → Some service last n
+  some-in n le = each-below 14 (Some service last) some n (omega arith)
 
-      x : ℕ
-      x = t - (zeroDegrees + 500 * n)
+  none-in : (n : ℕ) → n ≤ 14 → None service last n
+  none-in n le = each-below 15 (None service last) none n (omega arith)
 
-      low : 0 < tenths service (nth n)
-      low = some-in n (omega arith) (omega arith)
+  kept : service ≤ 2 → LimitedTo service (min 6_500 (500 * last + 499))
+  kept rows =
+      record {
+        some = λ t from to.
+            rw (limit-at service t (omega arith), le-leb service 2 rows) (some-in (rowsUpTo t) (omega arith) (omega arith) (omega arith));
+        none-below = none-below service;
+        none-above = λ t above le. none-from service t le (none-in (rowsUpTo t) (omega arith) (omega arith));
+      }
 
-      go : (b : Bool) → eqb x 0 ≡ b → 0 < limitAt service n x
-      go true e = rw (e, or-true) low
-      go false e =
-          let beyond = eqb-false x 0 e in
-          omega (arith, low, limit-between service n x (omega arith) (omega arith) low (some-in (suc n) (omega arith) (omega arith)) .0)
+  some-to : (t : ℕ) → zeroDegrees + 500 ≤ t → t ≤ zeroDegrees + 500 * last → 0 < lossLimit service t
+  some-to t from to =
+      let n = rowsUpTo t in
+      let within : n ≤ last = omega arith in
+      let low = some-in n (omega arith) (omega arith) within in
+      elim (eq-or-lt-of-le within) [
+        | inl e ↦
+            let here : beyond t ≡ 0 = omega arith in
+            rw (limit-at service t (omega arith), here, or-true) low
+        | inr lt ↦ omega (arith, low, limit-between service t (omega arith) low (some-in (suc n) (omega arith) (omega arith) lt) .0)
+      ]
 
-  none-from : (t : ℕ) → last < rowsUpTo t → t ≤ zeroDegrees + 6_500 → lossLimit service t ≡ 0
-  none-from t lt le = limit-at service t le ∙ unlimited service (rowsUpTo t) (t - (zeroDegrees + 500 * rowsUpTo t)) (none-in (rowsUpTo t) lt (omega arith))
-
--- From 450.0 °C on no seasonal limit is printed, so there is no line to it either.
-seasonal-end : (t : ℕ) → zeroDegrees + 4_000 < t → t ≤ zeroDegrees + 6_500 → lossLimit 4 t ≡ 0
-unfolding allBelow
-seasonal-end t above le = go (leb 9 (rowsUpTo t)) refl
-  where
-    go : (b : Bool) → leb 9 (rowsUpTo t) ≡ b → lossLimit 4 t ≡ 0
-    go true e = none-from 4 8 refl refl t (leb-true 9 (rowsUpTo t) e) le
-    go false e =
-        let before = leb-false 9 (rowsUpTo t) e in
-        let last : rowsUpTo t ≡ 8 = omega arith in
-        let beyond = ne-eqb (t - (zeroDegrees + 4_000)) 0 (λ at. omega arith) in
-        limit-at 4 t le ∙ rw (last, beyond)
+  line : 3 ≤ service → LimitedTo service (500 * last)
+  line lines =
+      record {
+        some = some-to;
+        none-below = none-below service;
+        none-above = λ t above le.
+            let from : last ≤ rowsUpTo t = omega arith in
+            elim (eq-or-lt-of-le from) [
+              | inl e ↦
+                  let past = ne-eqb (beyond t) 0 (λ at. omega arith) in
+                  let none = none-in (suc (rowsUpTo t)) (omega arith) (omega arith) in
+                  limit-at service t le ∙ rw (lt-leb service 2 lines, past, none, or-true)
+              | inr lt ↦ none-from service t le (none-in (rowsUpTo t) (omega arith) lt)
+            ];
+      }
 
 pub promises : Promises
-unfolding allBelow
 promises =
     record {
-      about = about;
-      nearest = nearest;
-      row-below = row-below;
-      at-row = at-row;
-      between = between;
-      year-round = record { some = some-to 1 13 refl refl (omega arith); none-below = none-below 1; none-above = λ t above le. absurd (omega arith) };
-      seasonal = record { some = λ t from to. rw (limit-at 2 t (omega arith)) (some-in 2 8 refl refl (rowsUpTo t) (omega arith) (omega arith)); none-below = none-below 2; none-above = λ t above le. none-from 2 8 refl refl t (omega arith) le };
-      year-round-line = record { some = some-to 3 13 refl refl (omega arith); none-below = none-below 3; none-above = λ t above le. absurd (omega arith) };
-      seasonal-line = record { some = some-to 4 8 refl refl (omega arith); none-below = none-below 4; none-above = seasonal-end };
+      row-below = λ t i le h.
+          let here = nth-at (suc i) (h .in-table) in
+          let from : zeroDegrees + 500 * suc i ≤ t = rw here at (h .not-above) in
+          -- the last of the rows that division counts is not above t either
+          let last = rowsUpTo t - 1 in
+          let place = nth-at (suc last) (omega arith) in
+          let row : rowsUpTo t ≡ suc i = omega (arith, h .highest last (omega arith) (omega arith)) in
+          (limit-at 1 t le ∙ rw row, limit-at 2 t le ∙ rw row);
+      at-row = λ service i lt.
+          let t = zeroDegrees + 500 * suc i in
+          let row : rowsUpTo t ≡ suc i = omega arith in
+          let here : beyond t ≡ 0 = omega arith in
+          rw (nth-at (suc i) lt) (limit-at service t (omega arith) ∙ rw (row, here, or-true));
+      between = λ service t i lt from to.
+          let start = nth-at (suc i) (omega arith) in
+          let end = nth-at (suc (suc i)) lt in
+          let row : rowsUpTo t ≡ suc i = omega arith in
+          rw row at (limit-between service t (omega arith));
+      year-round = kept 1 13 (omega arith) (omega arith) (omega arith) (omega arith);
+      seasonal = kept 2 8 (omega arith) (omega arith) (omega arith) (omega arith);
+      year-round-interpolated = line 3 13 (omega arith) (omega arith) (omega arith) (omega arith);
+      seasonal-interpolated = line 4 8 (omega arith) (omega arith) (omega arith) (omega arith);
     }

@@ -1,9 +1,10 @@
 -- The limits. 01, "The answer: 8 bytes", and 02, N2; the codes of a service are in 01, "The sheet: 24 bytes", and in N2.
 -- Assumes nothing.
 use Prim.Native.Nat.{ℕ, _+_, _-_, _*_}
-use mathlib.Core.Bool.{true, false, cond, _||_}
+use mathlib.Core.Bool.{cond, _||_}
 use mathlib.Core.List.{List, [], _∷_}
 use lib.Dec.{leb, eqb}
+use lib.ListN.{getD}
 use Rattle.fractions.specs.Fraction.{_over_}
 use Rattle.fractions.specs.Rounding.{floor}
 use Rattle.big_endian.specs.Bytes.{zeroDegrees}
@@ -26,40 +27,47 @@ table =
 abbrev pub unprinted : Row
 unprinted = row 0 0 0
 
--- its temperature in tenths; t and ta are counted from −3,276.8 °C here too (`zeroDegrees`)
-abbrev pub at : Row → ℕ
-at r = zeroDegrees + 10 * r .temperature
+-- row i of the table, the first being row 0
+abbrev pub rowAt : ℕ → Row
+rowAt i = getD table i unprinted
+
+-- a row's temperature, counted as t is: in tenths from −3,276.8 °C (`zeroDegrees`)
+abbrev pub counted : Row → ℕ
+counted r = zeroDegrees + 10 * r .temperature
 
 -- "1 year-round, 2 seasonal", "service 3 (year-round) or 4 (seasonal)". Every other code is refused with 12.
 abbrev pub column : ℕ → Row → ℕ
 column service r = cond (eqb service 1 || eqb service 3) (r .yearRound) (r .seasonal)
 
--- its limit "in tenths of W/m²"
-abbrev pub tenths : ℕ → Row → ℕ
-tenths service r = 10 * column service r
+-- a row's limit, "in tenths of W/m²"
+abbrev pub limitOf : ℕ → Row → ℕ
+limitOf service r = 10 * column service r
 
 pub record Neighbours : Type 0 where
   pub below : Row
   pub above : Row
 
--- "The row is the highest one not above t. Below 50.0, or seasonal from 450.0, none is printed." And the next row. The rows rise, so
--- the search ends at the first that is above t.
+-- "The row is the highest one not above t.", and with it the next one. The rows rise, so the search ends at the first that is above t.
+-- Before the first row and after the last stands `unprinted`.
 unfoldable pub neighbours : ℕ → Row → List Row → Neighbours
 neighbours t below [] = record { below = below; above = unprinted }
-neighbours t below (r ∷ higher) = elim (leb (at r) t) [ true ↦ neighbours t r higher | false ↦ record { below = below; above = r } ]
+neighbours t below (r ∷ higher) = cond (leb (counted r) t) (neighbours t r higher) (record { below = below; above = r })
 
--- "a straight line between neighbouring rows", "rounded down": from low to high over a width, at x; 0 where one of the two is not printed
+-- "a straight line between neighbouring rows", "rounded down": from low to high over a width, at a distance beyond its start. Where one of
+-- the two is not printed there is none: "Seasonal at 400.0 gives 314; above it none is printed."
 abbrev pub interpolated : ℕ → ℕ → ℕ → ℕ → ℕ
-interpolated low high width x = cond (eqb low 0 || eqb high 0) 0 (floor ((low * (width - x) + high * x) over width))
+interpolated low high width beyond = cond (eqb low 0 || eqb high 0) 0 (floor ((low * (width - beyond) + high * beyond) over width))
 
--- The limit in tenths of W/m², 0 where none is printed. "Services 1 and 2 keep the row below"; 3 and 4 read it at its temperature, and
--- the line above it.
+-- The limit in tenths of W/m², 0 where none is printed: "Below 50.0, or seasonal from 450.0, none is printed."
+-- "Services 1 and 2 keep the row below". Services 3 and 4 have that row's limit at its temperature, and beyond it the straight line to the
+-- next row.
 unfoldable pub lossLimit : ℕ → ℕ → ℕ
 lossLimit service t =
     let rows = neighbours t unprinted table in
-    let low = tenths service (rows .below) in
-    let x = t - at (rows .below) in
-    cond (leb service 2 || eqb x 0) low (interpolated low (tenths service (rows .above)) (at (rows .above) - at (rows .below)) x)
+    let low = limitOf service (rows .below) in
+    let high = limitOf service (rows .above) in
+    let beyond = t - counted (rows .below) in
+    cond (leb service 2 || eqb beyond 0) low (interpolated low high (counted (rows .above) - counted (rows .below)) beyond)
 
 -- "Surface limit: 50.0 °C for ta up to 27.0, else ta + 25.0 (001, 3.0.5)."
 abbrev pub surfaceLimit : ℕ → ℕ

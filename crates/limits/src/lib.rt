@@ -1,9 +1,8 @@
 // The limits of heat loss and of surface temperature.
 ghost use mathlib.Core.Path.{_≡_};
 ghost use Prim.Native.Nat.{_+_, _≤_, _<_};
-ghost use lib.ListN.{getD};
 ghost use Rattle.big_endian.specs.Bytes.{zeroDegrees};
-ghost use Rattle.limits.specs.Limits.{table, unprinted, column, interpolated, lossLimit, surfaceLimit};
+ghost use Rattle.limits.specs.Limits.{rowAt, column, interpolated, lossLimit, surfaceLimit};
 use big_endian::ZERO;
 
 // The limits in W/m² at 50 °C, 100 °C and so on to 650 °C, year-round and seasonal; 0 where none is printed.
@@ -34,30 +33,31 @@ pub fn loss_limit(service: u64, temperature: u64) -> u64
     }
     let row = (temperature - first) / 500;
     let beyond = (temperature - first) % 500;
-    let below = 10 * printed(row, service);
+    let low = 10 * printed(row, service);
     if (service <= 2) | (beyond == 0) {
-        return below;
+        return low;
     }
-    interpolate(below, 10 * printed(row + 1, service), beyond)
+    interpolate(low, 10 * printed(row + 1, service), beyond)
 }
 
 // The limit in W/m² that is printed in a row, the first being row 0, for a service.
 fn printed(row: u64, service: u64) -> u64
     requires { ⌜ (row < 13) × (1 ≤ service) × (service ≤ 4) ⌝ }
-    ensures { λ r. ⌜ (r ≡ column service (getD table row unprinted)) × (r ≤ 314) ⌝ }
+    ensures { λ r. ⌜ (r ≡ column service (rowAt row)) × (r ≤ 314) ⌝ }
 {
     LIMITS[row as usize][((service - 1) % 2) as usize]
 }
 
-// The limit on the straight line between two rows, at a temperature beyond the lower one; 0 where one of them has none.
-fn interpolate(below: u64, above: u64, beyond: u64) -> u64
-    requires { ⌜ (below ≤ 3_140) × (above ≤ 3_140) × (beyond ≤ 500) ⌝ }
-    ensures { λ r. ⌜ r ≡ interpolated below above 500 beyond ⌝ }
+// The limit in 0.1 W/m² on the straight line between two rows, which are 50.0 °C apart, at a temperature beyond the lower one in 0.1 °C; 0
+// where one of them has no limit.
+fn interpolate(low: u64, high: u64, beyond: u64) -> u64
+    requires { ⌜ (low ≤ 3_140) × (high ≤ 3_140) × (beyond ≤ 500) ⌝ }
+    ensures { λ r. ⌜ r ≡ interpolated low high 500 beyond ⌝ }
 {
-    if (below == 0) | (above == 0) {
+    if (low == 0) | (high == 0) {
         return 0;
     }
-    (below * (500 - beyond) + above * beyond) / 500
+    (low * (500 - beyond) + high * beyond) / 500
 }
 
 // The limit of the surface's temperature where the air has the temperature ambient, both counted from −3,276.8 °C.

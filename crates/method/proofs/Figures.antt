@@ -16,7 +16,7 @@ use Rattle.limits.specs.Limits.{neighbours, lossLimit}
 use Rattle.sheet.specs.Answer.{encoded, lossCheck, surfaceCheck, surfaceBound, answerOf}
 use Rattle.sheet.proofs.Examples.{low, high}
 use Rattle.book.specs.Refusals.{sameBytes}
-use Rattle.method.specs.Method.{Cylinder, Hotter, BetweenRows, Between, FlatWall, Entry, Method}
+use Rattle.method.specs.Method.{Cylinder, Hotter, Between, FlatWall, BetweenRows, Entry, Method}
 
 the-cylinder : Cylinder
 unfolding summed lowerStep upperStep least insulation film insulationBounds filmBounds provided requirement enclosing firstNotInsufficient bigEndian bytesOf decoded neighbours lossLimit lossCheck surfaceCheck surfaceBound encoded answerOf anyOutside respond
@@ -49,10 +49,6 @@ the-same-hotter : Hotter
 unfolding summed lowerStep upperStep least insulation film insulationBounds filmBounds provided requirement enclosing firstNotInsufficient bigEndian bytesOf decoded neighbours lossLimit lossCheck surfaceCheck surfaceBound encoded answerOf anyOutside respond
 the-same-hotter = record { required = refl; loss-limit = refl; loss-required = refl; surface-required = refl; bound = refl; answer = refl }
 
-between-rows : BetweenRows
-unfolding summed lowerStep upperStep least insulation film insulationBounds filmBounds provided requirement enclosing firstNotInsufficient bigEndian bytesOf decoded neighbours lossLimit lossCheck surfaceCheck surfaceBound encoded answerOf anyOutside respond
-between-rows = record { year-round-limit = (refl, refl); year-round-required = refl; year-round-answer = refl; seasonal-limit = (refl, refl); seasonal-required = refl; seasonal-answer = refl }
-
 between-millimetres : Between
 unfolding summed lowerStep upperStep
 between-millimetres =
@@ -84,6 +80,23 @@ the-flat-wall =
       strip = refl;
     }
 
+between-rows : BetweenRows
+unfolding summed lowerStep upperStep least insulation film insulationBounds filmBounds provided requirement enclosing firstNotInsufficient bigEndian bytesOf decoded neighbours lossLimit lossCheck surfaceCheck surfaceBound encoded answerOf anyOutside respond
+between-rows =
+    record {
+      required = refl;
+      at-30 = refl;
+      at-40 = refl;
+      rows = (refl, refl);
+      line = (refl, refl);
+      limit = (refl, refl);
+      loss-required = refl;
+      surface-required = refl;
+      bound = refl;
+      answer = refl;
+      answer-by-row = refl;
+    }
+
 an-entry : Entry
 unfolding summed lowerStep upperStep least insulation film insulationBounds filmBounds provided requirement enclosing firstNotInsufficient bigEndian bytesOf decoded neighbours lossLimit lossCheck surfaceCheck surfaceBound encoded answerOf anyOutside respond sameBytes
 an-entry = record { size = refl; places = (refl, refl, refl); sizes = (refl, refl); read = refl }
@@ -93,8 +106,8 @@ method =
     record {
       the-cylinder = the-cylinder;
       the-same-hotter = the-same-hotter;
-      between-rows = between-rows;
       between-millimetres = between-millimetres;
       the-flat-wall = the-flat-wall;
+      between-rows = between-rows;
       an-entry = an-entry;
     }

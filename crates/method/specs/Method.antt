@@ -1,6 +1,6 @@
 -- The figures of docs/METHOD.md, section by section, beside those that `Worked`, of `sheet`, has: P1, P2, P4, P8 and the answer to F.
 -- Assumes nothing.
-use Prim.Native.Nat.{ℕ, _+_, _-_, _*_}
+use Prim.Native.Nat.{ℕ, _+_, _*_}
 use mathlib.Core.Path.{_≡_}
 use mathlib.Core.List.{List, [], _∷_, _++_}
 use Rattle.fractions.specs.declared.Bounds.{Bounds}
@@ -16,7 +16,7 @@ use Rattle.refusals.specs.Response.{complete}
 use Rattle.big_endian.specs.Bytes.{bytesOf, zeroDegrees, offsetBinary}
 use Rattle.sheet.specs.Sheet.{decoded, difference, goalOf}
 use Rattle.sheet.specs.Search.{requiredOf, chosen}
-use Rattle.limits.specs.Limits.{lossLimit, surfaceLimit}
+use Rattle.limits.specs.Limits.{table, unprinted, limitOf, neighbours, interpolated, lossLimit, surfaceLimit}
 use Rattle.sheet.specs.Answer.{surfaceBound}
 use Rattle.sheet.specs.Refusals.{responseTo}
 use Rattle.sheet.specs.Worked.{sheetF, sheetG}
@@ -27,15 +27,19 @@ use Rattle.book.specs.Refusals.{reading}
 abbrev bounds : ℕ → ℕ → Bounds
 bounds l u = record { lower = l; upper = u }
 
--- the bytes of the cylinder, and of the same pipe, hotter, for any service
+-- the bytes of the cylinder, and of the same pipe, hotter
 abbrev pub cylinder : List ℕ
 cylinder = 1 ∷ 1 ∷ 0 ∷ 1 ∷ 1 ∷ 14 ∷ 0 ∷ 207 ∷ 0 ∷ 70 ∷ 1 ∷ 77 ∷ 8 ∷ 0 ∷ 29 ∷ 76 ∷ 11 ∷ 64 ∷ 6 ∷ 64 ∷ 8 ∷ 248 ∷ 0 ∷ 0 ∷ []
 
-abbrev pub hotter : ℕ → List ℕ
-hotter service = 3 ∷ service ∷ 0 ∷ 2 ∷ 1 ∷ 14 ∷ 5 ∷ 20 ∷ 0 ∷ 250 ∷ 1 ∷ 77 ∷ 8 ∷ 0 ∷ (bytesOf 8 0 ++ (1 ∷ 94 ∷ []))
+abbrev pub hotter : List ℕ
+hotter = 3 ∷ 1 ∷ 0 ∷ 2 ∷ 1 ∷ 14 ∷ 5 ∷ 20 ∷ 0 ∷ 250 ∷ 1 ∷ 77 ∷ 8 ∷ 0 ∷ (bytesOf 8 0 ++ (1 ∷ 94 ∷ []))
 
 abbrev pub flat : List ℕ
 flat = sheetF 2 800
+
+-- the same wall with another surface coefficient and aim, for any service
+abbrev pub wall : ℕ → List ℕ
+wall service = 2 ∷ service ∷ 0 ∷ 8 ∷ 46 ∷ 224 ∷ 5 ∷ 20 ∷ 0 ∷ 200 ∷ 1 ∷ 144 ∷ 4 ∷ 139 ∷ (bytesOf 8 0 ++ (4 ∷ 36 ∷ []))
 
 abbrev pub book : List ℕ
 book = (0 ∷ 2 ∷ 0 ∷ 2 ∷ []) ++ cylinder ++ flat ++ (0 ∷ 1 ∷ 0 ∷ 20 ∷ 3 ∷ 0 ∷ 0 ∷ 77 ∷ []) ++ (0 ∷ 2 ∷ 0 ∷ 50 ∷ 0 ∷ 0 ∷ 1 ∷ 44 ∷ [])
@@ -68,20 +72,12 @@ pub record Cylinder : Type 0 where
   pub answer : responseTo cylinder ≡ complete (0 ∷ 1 ∷ 0 ∷ 20 ∷ 3 ∷ 0 ∷ 0 ∷ 77 ∷ [])
 
 pub record Hotter : Type 0 where
-  pub required : requiredOf (decoded (hotter 1)) (goalOf (decoded (hotter 1))) ≡ bounds 34_145_507 34_145_508
+  pub required : requiredOf (decoded hotter) (goalOf (decoded hotter)) ≡ bounds 34_145_507 34_145_508
   pub loss-limit : lossLimit 1 (zeroDegrees + 1_300) ≡ 930
-  pub loss-required : requiredOf (decoded (hotter 1)) (Loss 930) ≡ bounds 75_193_548 75_193_549
-  pub surface-required : requiredOf (decoded (hotter 1)) (Surface 250) ≡ bounds 13_658_203 13_658_204
-  pub bound : surfaceBound (decoded (hotter 1)) (bounds 64_145_256 64_145_354) ≡ zeroDegrees + 304
-  pub answer : responseTo (hotter 1) ≡ complete (0 ∷ 1 ∷ 0 ∷ 20 ∷ 1 ∷ 0 ∷ 1 ∷ 48 ∷ [])
-
-pub record BetweenRows : Type 0 where
-  pub year-round-limit : (930 * (500 - 300) + 1_160 * 300 ≡ 534_000) × (lossLimit 3 (zeroDegrees + 1_300) ≡ 1_068)
-  pub year-round-required : requiredOf (decoded (hotter 3)) (Loss 1_068) ≡ bounds 65_477_528 65_477_529
-  pub year-round-answer : responseTo (hotter 3) ≡ complete (0 ∷ 1 ∷ 0 ∷ 20 ∷ 1 ∷ 0 ∷ 1 ∷ 48 ∷ [])
-  pub seasonal-limit : (1_630 * (500 - 300) + 2_030 * 300 ≡ 935_000) × (lossLimit 4 (zeroDegrees + 1_300) ≡ 1_870)
-  pub seasonal-required : requiredOf (decoded (hotter 4)) (Loss 1_870) ≡ bounds 37_395_721 37_395_722
-  pub seasonal-answer : responseTo (hotter 4) ≡ complete (0 ∷ 1 ∷ 0 ∷ 20 ∷ 0 ∷ 0 ∷ 1 ∷ 48 ∷ [])
+  pub loss-required : requiredOf (decoded hotter) (Loss 930) ≡ bounds 75_193_548 75_193_549
+  pub surface-required : requiredOf (decoded hotter) (Surface 250) ≡ bounds 13_658_203 13_658_204
+  pub bound : surfaceBound (decoded hotter) (bounds 64_145_256 64_145_354) ≡ zeroDegrees + 304
+  pub answer : responseTo hotter ≡ complete (0 ∷ 1 ∷ 0 ∷ 20 ∷ 1 ∷ 0 ∷ 1 ∷ 48 ∷ [])
 
 pub record Between : Type 0 where
   pub step-270 : stepBounds 270 ≡ bounds 3_696_857_670 3_696_870_303
@@ -108,6 +104,21 @@ pub record FlatWall : Type 0 where
   -- the exact equation: strip 100, cut in 2
   pub strip : lowerSum 2 100 101 ≡ 1_608 over 161_603
 
+pub record BetweenRows : Type 0 where
+  pub required : requiredOf (decoded (wall 3)) (goalOf (decoded (wall 3))) ≡ bounds 41_509_433 41_509_434
+  pub at-30 : provided (decoded (wall 3) .line) 30 ≡ bounds 33_439_380 33_439_381
+  pub at-40 : provided (decoded (wall 3) .line) 40 ≡ bounds 43_439_380 43_439_381
+  -- the rows of 100 and 150 °C, and the straight line between them at 130.0 and 129.9 °C
+  pub rows : let rows = neighbours (zeroDegrees + 1_300) unprinted table in (limitOf 3 (rows .below) ≡ 930) × (limitOf 3 (rows .above) ≡ 1_160)
+  pub line : (interpolated 930 1_160 500 300 ≡ 1_068) × (interpolated 930 1_160 500 299 ≡ 1_067)
+  pub limit : (lossLimit 3 (zeroDegrees + 1_300) ≡ 1_068) × (lossLimit 1 (zeroDegrees + 1_300) ≡ 930)
+  pub loss-required : requiredOf (decoded (wall 3)) (Loss 1_068) ≡ bounds 41_198_501 41_198_502
+  pub surface-required : requiredOf (decoded (wall 3)) (Surface 300) ≡ bounds 12_611_063 12_611_064
+  pub bound : surfaceBound (decoded (wall 3)) (bounds 43_439_380 43_439_381) ≡ zeroDegrees + 288
+  -- services 3 and 1
+  pub answer : responseTo (wall 3) ≡ complete (0 ∷ 2 ∷ 0 ∷ 40 ∷ 0 ∷ 0 ∷ 1 ∷ 32 ∷ [])
+  pub answer-by-row : responseTo (wall 1) ≡ complete (0 ∷ 2 ∷ 0 ∷ 40 ∷ 1 ∷ 0 ∷ 1 ∷ 32 ∷ [])
+
 pub record Entry : Type 0 where
   pub size : bytesFor standard 2 ≡ 68
   pub places : (sheetAt standard 1 ≡ 28) × (answerAt standard 2 0 ≡ 52) × (answerAt standard 2 1 ≡ 60)
@@ -117,7 +128,7 @@ pub record Entry : Type 0 where
 pub record Method : Type 0 where
   pub the-cylinder : Cylinder
   pub the-same-hotter : Hotter
-  pub between-rows : BetweenRows
   pub between-millimetres : Between
   pub the-flat-wall : FlatWall
+  pub between-rows : BetweenRows
   pub an-entry : Entry

@@ -1,4 +1,4 @@
--- What holds of a sheet for which the cases 11 to 16 fail: its line, its temperatures and its goal are in range.
+-- What holds of a sheet for which the cases 11 to 16 fail: its service, its line, its temperatures and its goal are in range.
 -- Assumes nothing.
 use mathlib.Core.Path.{_≡_}
 use mathlib.Core.Bool.{Bool, true, false, cond, _&&_, and-eq-true-iff}

@@ -1,5 +1,5 @@
--- Answered sheets, for each goal and with each outcome of the checks. The economy sheets are 01's ("D 270 gives 20, D 320 gives 30"); the
--- other answers are computed by tools/sheet.py, which shares nothing with the crates.
+-- Answered sheets, for each goal and with each outcome of the checks, and one with an unknown service. The economy sheets are 01's ("D 270
+-- gives 20, D 320 gives 30"); the other answers are computed by tools/sheet.py, which shares nothing with the crates.
 -- Assumes nothing.
 use mathlib.Core.Path.{_≡_, refl, sym}
 use mathlib.Core.List.{List, [], _∷_, _++_}
@@ -49,11 +49,10 @@ pub record Examples : Type 0 where
   -- too close to the loss limit; too close to the surface limit
   pub loss-close : Answers (sheetOf 2 1 12_000 600 200 100 145 60_000) (0 ∷ 2 ∷ 0 ∷ 0 ∷ 2 ∷ 1 ∷ 2 ∷ 88 ∷ [])
   pub surface-close : Answers (sheetOf 2 1 12_000 803 200 100 101 402) (0 ∷ 2 ∷ 0 ∷ 10 ∷ 0 ∷ 2 ∷ 1 ∷ 245 ∷ [])
-  -- "The loss check follows the service byte" (02, N2): over the row below 130.0 °C, within the line; at 400.1 °C within a row, no line
-  pub row-130 : Answers (sheetOf 2 1 12_000 1_300 200 400 1_163 1_060) (0 ∷ 2 ∷ 0 ∷ 40 ∷ 1 ∷ 0 ∷ 1 ∷ 32 ∷ [])
-  pub line-130 : Answers (sheetOf 2 3 12_000 1_300 200 400 1_163 1_060) (0 ∷ 2 ∷ 0 ∷ 40 ∷ 0 ∷ 0 ∷ 1 ∷ 32 ∷ [])
-  pub row-400-1 : Answers (sheetOf 2 2 12_000 4_001 200 400 1_163 3_000) (0 ∷ 2 ∷ 0 ∷ 50 ∷ 0 ∷ 0 ∷ 1 ∷ 189 ∷ [])
-  pub line-400-1 : Answers (sheetOf 2 4 12_000 4_001 200 400 1_163 3_000) (0 ∷ 2 ∷ 0 ∷ 50 ∷ 3 ∷ 0 ∷ 1 ∷ 189 ∷ [])
+  -- "The loss check follows the service byte" (02, N2): at 400.1 °C service 2 has the limit of the row, and service 4 none
+  pub seasonal-row : Answers (sheetOf 2 2 12_000 4_001 200 400 1_163 3_000) (0 ∷ 2 ∷ 0 ∷ 50 ∷ 0 ∷ 0 ∷ 1 ∷ 189 ∷ [])
+  pub seasonal-interpolated : Answers (sheetOf 2 4 12_000 4_001 200 400 1_163 3_000) (0 ∷ 2 ∷ 0 ∷ 50 ∷ 3 ∷ 0 ∷ 1 ∷ 189 ∷ [])
+  -- "refusal 12 admits the two new codes", and no other
   pub service-5 : responseTo (sheetOf 2 5 12_000 1_300 200 400 1_163 1_060) ≡ refused 12
 
 -- the economy requirement of both sheets: 14,402,025,000 × 7,500 × 333 × 2,880 × 137 / (1,600 × 2,296) under the root
@@ -79,9 +78,7 @@ examples =
       bare = refl;
       loss-close = refl;
       surface-close = refl;
-      row-130 = refl;
-      line-130 = refl;
-      row-400-1 = refl;
-      line-400-1 = refl;
+      seasonal-row = refl;
+      seasonal-interpolated = refl;
       service-5 = refl;
     }

@@ -1,4 +1,5 @@
--- The ranges of a sheet for which cases 11 to 16 fail, as far as what works it out asks for them. 01, "The sheet: 24 bytes".
+-- The ranges of a sheet for which cases 11 to 16 fail, as far as what works it out asks for them. 01, "The sheet: 24 bytes",
+-- and 02, N2.
 -- Assumes nothing.
 use Prim.Native.Nat.{_+_, _≤_, _<_}
 use Rattle.balance.specs.Ranges.{LineInRange, GoalInRange}

@@ -48,7 +48,8 @@ encoded a =
     0 ∷ shapeCode (a .shape) ∷
     (bytesOf 2 (a .thickness .0) ++ (lossCode (a .loss) ∷ checkCode (a .surface) ∷ bytesOf 2 (offsetBinary (a .bound))))
 
--- of a rung that provides p: "The loss check reads meets, misses or open of the chosen rung against the loss need at the limit below"
+-- of a rung that provides p: "The loss check reads meets, misses or open of the chosen rung against the loss need at the limit below"; it
+-- "follows the service byte" (02, N2)
 unfoldable pub lossCheck : Sheet → Bounds → LossCheck
 lossCheck s p =
     let limit = lossLimit (s .service) (s .temperature) in

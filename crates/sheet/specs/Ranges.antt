@@ -1,4 +1,4 @@
--- The ranges of a sheet's fields. 01, "The sheet: 24 bytes".
+-- The ranges of a sheet's fields. 01, "The sheet: 24 bytes", and 02, N2.
 -- Assumes nothing.
 use Prim.Native.Nat.{ℕ, _+_, _-_}
 use mathlib.Core.Bool.{Bool, false, _||_, cond}

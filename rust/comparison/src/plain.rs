@@ -84,21 +84,21 @@ pub enum Goal {
 
 pub const GOALS: [Goal; 3] = [Goal::Economy, Goal::Loss, Goal::Surface];
 
-/// 1 year-round, 2 seasonal; 3 year-round and 4 seasonal with "a straight line
+/// 1 year-round, 2 seasonal; 3 year-round and 4 seasonal, with "a straight line
 /// between neighbouring rows of the loss table".
 #[derive(Clone, Copy, Debug, PartialEq, Eq)]
 pub enum Service {
     YearRound = 1,
     Seasonal = 2,
-    YearRoundLine = 3,
-    SeasonalLine = 4,
+    YearRoundInterpolated = 3,
+    SeasonalInterpolated = 4,
 }
 
 pub const SERVICES: [Service; 4] = [
     Service::YearRound,
     Service::Seasonal,
-    Service::YearRoundLine,
-    Service::SeasonalLine,
+    Service::YearRoundInterpolated,
+    Service::SeasonalInterpolated,
 ];
 
 /// Byte 1 of the answer: 1 cylinder, 2 flat.
@@ -534,40 +534,52 @@ pub const LOSS_LIMITS: [LossLimit; 13] = [
 ];
 
 impl LossLimit {
-    /// t in tenths of a degree.
-    fn tenths(&self) -> i16 {
+    /// t in tenths of a degree, as on a sheet.
+    fn pipe_temperature(&self) -> i16 {
         10 * self.temperature
     }
 
     /// The printed limit in tenths of W/m².
     fn printed(&self, service: Service) -> Option<u16> {
         let watts = match service {
-            Service::YearRound | Service::YearRoundLine => self.year_round,
-            Service::Seasonal | Service::SeasonalLine => self.seasonal,
+            Service::YearRound | Service::YearRoundInterpolated => self.year_round,
+            Service::Seasonal | Service::SeasonalInterpolated => self.seasonal,
         };
         watts.map(|watts| 10 * watts)
     }
 }
 
 /// "The row is the highest one not above t." In tenths of W/m². "Services 1 and
-/// 2 keep the row below"; 3 and 4 read the line above it.
+/// 2 keep the row below"; beyond its temperature 3 and 4 read the straight line
+/// to the next row.
 pub fn loss_limit(service: Service, pipe_temperature: i16) -> Option<u16> {
-    let count = LOSS_LIMITS.partition_point(|row| row.tenths() <= pipe_temperature);
+    let count = LOSS_LIMITS.partition_point(|row| row.pipe_temperature() <= pipe_temperature);
     let (not_above, above) = LOSS_LIMITS.split_at(count);
     let row = not_above.last()?;
-    let line = matches!(service, Service::YearRoundLine | Service::SeasonalLine);
-    if line && row.tenths() < pipe_temperature {
-        on_line(service, (row, above.first()?), pipe_temperature)
+    let interpolates = matches!(
+        service,
+        Service::YearRoundInterpolated | Service::SeasonalInterpolated
+    );
+    if interpolates && row.pipe_temperature() < pipe_temperature {
+        interpolated(service, (row, above.first()?), pipe_temperature)
     } else {
         row.printed(service)
     }
 }
 
 /// "The limit is in tenths of W/m², rounded down." The limits rise with t.
-fn on_line(service: Service, rows: (&LossLimit, &LossLimit), pipe_temperature: i16) -> Option<u16> {
+fn interpolated(
+    service: Service,
+    rows: (&LossLimit, &LossLimit),
+    pipe_temperature: i16,
+) -> Option<u16> {
     let (low, high) = (rows.0.printed(service)?, rows.1.printed(service)?);
-    let width = u32::from(rows.1.tenths().abs_diff(rows.0.tenths()));
-    let beyond = u32::from(pipe_temperature.abs_diff(rows.0.tenths()));
+    let width = u32::from(
+        rows.1
+            .pipe_temperature()
+            .abs_diff(rows.0.pipe_temperature()),
+    );
+    let beyond = u32::from(pipe_temperature.abs_diff(rows.0.pipe_temperature()));
     let rise = u32::from(high - low) * beyond / width;
     Some(low + u16::try_from(rise).expect("at most the next row's"))
 }

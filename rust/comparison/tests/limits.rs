@@ -1,5 +1,6 @@
-//! The loss limit at every temperature, for every service: the answers to two
-//! sheets leave only one limit, to the tenth of a W/m².
+//! The loss limit at every temperature above −50.0 °C, for every service. Where
+//! there is one, the answers to two sheets leave only that, to the tenth of a
+//! W/m²; where there is none, one sheet says so.
 
 use comparison::both;
 use comparison::plain::{self, Goal, Service, NONE_PRINTED, OVER, WITHIN};
@@ -20,8 +21,8 @@ fn wall(service: Service, pipe: i32, air: i32, coefficient: i32, aim: i32) -> Dr
 }
 
 /// The wall that has hardly more than it needs for a loss: α is the greatest
-/// for which the film, 1 to 11 mm, makes up what whole rungs lack. It would be
-/// over a loss of a tenth less.
+/// for which the film makes up what whole rungs lack, 1 to 11 mm. It has less
+/// than it needs for a loss that is a tenth smaller.
 fn hardly_within(service: Service, pipe: i32, loss: i32) -> Draft {
     let need = 100_000_000 * i64::from(pipe);
     let need = (need + i64::from(loss) - 1) / i64::from(loss);
@@ -57,8 +58,8 @@ fn at_every_temperature() {
             match plain::loss_limit(service, pipe as i16) {
                 Some(limit) => assert_limit(service, pipe, limit.into()),
                 None => {
-                    let bare = wall(service, pipe, plain::AIR_TEMPERATURE.least, 1_000, 65_535);
-                    assert_eq!(loss_check(&bare), NONE_PRINTED, "{service:?} at {pipe}");
+                    let sheet = wall(service, pipe, plain::AIR_TEMPERATURE.least, 1_000, 65_535);
+                    assert_eq!(loss_check(&sheet), NONE_PRINTED, "{service:?} at {pipe}");
                 }
             }
         }

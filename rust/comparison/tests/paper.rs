@@ -1,4 +1,5 @@
-//! The figures that the paper prints, from both implementations.
+//! The figures that the papers print: answers from both implementations, the
+//! rest from the plain one.
 
 use comparison::both;
 use comparison::plain::{self, Bracket, Logarithm, Refusal, Service};
@@ -89,9 +90,16 @@ fn limits() {
 
 #[test]
 fn limits_between_rows() {
-    let year_round = |t| plain::loss_limit(Service::YearRoundLine, t);
-    let seasonal = |t| plain::loss_limit(Service::SeasonalLine, t);
+    let year_round = |t| plain::loss_limit(Service::YearRoundInterpolated, t);
+    let seasonal = |t| plain::loss_limit(Service::SeasonalInterpolated, t);
     assert_eq!(year_round(1_300), Some(1_068));
+    // 106.754, 186.92 and 92.93 are rounded down; 75.5 and 139.5 are halfway.
+    assert_eq!(
+        (year_round(1_299), seasonal(1_299)),
+        (Some(1_067), Some(1_869))
+    );
+    assert_eq!(year_round(999), Some(929));
+    assert_eq!((year_round(750), seasonal(750)), (Some(755), Some(1_395)));
     assert_eq!(seasonal(4_000), Some(3_140));
     assert_eq!((seasonal(4_001), seasonal(4_499)), (None, None));
     assert_eq!((year_round(499), seasonal(499)), (None, None));

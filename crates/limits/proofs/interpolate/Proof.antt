@@ -12,7 +12,7 @@ use Rattle.limits.proofs.interpolate.Tie as tie
 returns : tie.Need-returns
 returns c =
     let a = c .before .args in
-    let none : eqb (a .below) 0 || eqb (a .above) 0 ≡ true = c .if1 .taken in
+    let none : eqb (a .low) 0 || eqb (a .high) 0 ≡ true = c .if1 .taken in
     rw none
 
 sub-result : tie.Need-sub-result
@@ -32,7 +32,7 @@ add-result c =
 returns-2 : tie.Need-returns-2
 returns-2 c =
     let a = c .before .args in
-    let both : eqb (a .below) 0 || eqb (a .above) 0 ≡ false = c .if1 .left in
+    let both : eqb (a .low) 0 || eqb (a .high) 0 ≡ false = c .if1 .left in
     rw both
 
 pub interpolate-spec : {M : Type 1} → statement M

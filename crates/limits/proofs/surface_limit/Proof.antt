@@ -2,7 +2,9 @@
 -- Assumes nothing.
 use mathlib.Core.Path.{_≡_}
 use mathlib.Core.Bool.{true, false}
+use Prim.Native.Nat.{_+_}
 use lib.Dec.{leb}
+use Rattle.big_endian.specs.Bytes.{zeroDegrees}
 use borrow.Author.Tests.{le-leb, lt-leb}
 use borrow.Author.Needs.{needs}
 use Rattle.limits.proofs.surface_limit.Statement.{statement}
@@ -19,12 +21,12 @@ add-result-2 c = search needs
 
 returns : tie.Need-returns
 returns c =
-    let low : leb (c .before .args .ambient) 33_038 ≡ true = le-leb _ _ (c .if1 .taken) in
+    let low : leb (c .before .args .ambient) (zeroDegrees + 270) ≡ true = le-leb _ _ (c .if1 .taken) in
     simp low
 
 returns-2 : tie.Need-returns-2
 returns-2 c =
-    let high : leb (c .before .args .ambient) 33_038 ≡ false = lt-leb _ _ (c .if1 .left) in
+    let high : leb (c .before .args .ambient) (zeroDegrees + 270) ≡ false = lt-leb _ _ (c .if1 .left) in
     simp high
 
 pub surface-limit-spec : {M : Type 1} → statement M
