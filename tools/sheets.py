@@ -163,7 +163,8 @@ def row_edge(r):
 
 
 def limit_edges(r):
-    """For each service and each row where it has a limit, a sheet just within a limit from there on, and one just over it."""
+    """For each service and each row where it has a limit, a sheet just within the limit at a temperature from that row on, and
+    one just over such a limit."""
     return [side(r, 2, r.random() < 0.4, 40, service=service, t=min(t + r.choice([0, r.randint(1, 498), 499]), last))
             for service, last in ((1, 6_500), (2, 4_499), (3, 6_500), (4, 4_000)) for t in range(500, last + 1, 500)
             for side in (within_loss, over_loss)]

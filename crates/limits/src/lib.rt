@@ -48,8 +48,8 @@ fn printed(row: u64, service: u64) -> u64
     LIMITS[row as usize][((service - 1) % 2) as usize]
 }
 
-// The limit in 0.1 W/m² on the straight line between two rows, which are 50.0 °C apart, at a temperature beyond the lower one in 0.1 °C; 0
-// where one of them has no limit.
+// The limit in 0.1 W/m² on the straight line between two rows, which are 50.0 °C apart, at a temperature that is `beyond` tenths of a degree
+// above the lower row's; 0 where one of them has no limit.
 fn interpolate(low: u64, high: u64, beyond: u64) -> u64
     requires { ⌜ (low ≤ 3_140) × (high ≤ 3_140) × (beyond ≤ 500) ⌝ }
     ensures { λ r. ⌜ r ≡ interpolated low high 500 beyond ⌝ }

@@ -1,4 +1,4 @@
-//! Further implementations of the paper's rules, and the sheets on which the
+//! Further implementations of the papers' rules, and the sheets on which the
 //! proved library is compared with them.
 
 pub mod both;

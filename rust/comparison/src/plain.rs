@@ -1,4 +1,4 @@
-//! The rules of the paper worked out the plain way: whole numbers, loops over
+//! The rules of the papers worked out the plain way: whole numbers, loops over
 //! the definitions and no tables of logarithms.
 
 use std::ops::{Range, RangeInclusive};
