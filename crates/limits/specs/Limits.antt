@@ -43,6 +43,7 @@ column service r = cond (eqb service 1 || eqb service 3) (r .yearRound) (r .seas
 abbrev pub limitOf : ℕ → Row → ℕ
 limitOf service r = 10 * column service r
 
+-- two neighbouring rows
 pub record Neighbours : Type 0 where
   pub below : Row
   pub above : Row

@@ -34,7 +34,10 @@ pub fn loss_limit(service: u64, temperature: u64) -> u64
     let row = (temperature - first) / 500;
     let beyond = (temperature - first) % 500;
     let low = 10 * printed(row, service);
-    if (service <= 2) | (beyond == 0) {
+    if service <= 2 {
+        return low;
+    }
+    if beyond == 0 {
         return low;
     }
     interpolate(low, 10 * printed(row + 1, service), beyond)
@@ -54,7 +57,10 @@ fn interpolate(low: u64, high: u64, beyond: u64) -> u64
     requires { ⌜ (low ≤ 3_140) × (high ≤ 3_140) × (beyond ≤ 500) ⌝ }
     ensures { λ r. ⌜ r ≡ interpolated low high 500 beyond ⌝ }
 {
-    if (low == 0) | (high == 0) {
+    if low == 0 {
+        return 0;
+    }
+    if high == 0 {
         return 0;
     }
     (low * (500 - beyond) + high * beyond) / 500

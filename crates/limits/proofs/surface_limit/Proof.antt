@@ -1,9 +1,7 @@
 -- `surface_limit` meets its contract.
 -- Assumes nothing.
-use mathlib.Core.Path.{_≡_}
-use mathlib.Core.Bool.{true, false}
 use Prim.Native.Nat.{_+_}
-use lib.Dec.{leb}
+use native.Mathlib.Omega.{arith}
 use Rattle.big_endian.specs.Bytes.{zeroDegrees}
 use borrow.Author.Tests.{le-leb, lt-leb}
 use borrow.Author.Needs.{needs}
@@ -20,14 +18,10 @@ add-result-2 : tie.Need-add-result-2
 add-result-2 c = search needs
 
 returns : tie.Need-returns
-returns c =
-    let low : leb (c .before .args .ambient) (zeroDegrees + 270) ≡ true = le-leb _ _ (c .if1 .taken) in
-    simp low
+returns c = simp (le-leb (c .before .args .ambient) (zeroDegrees + 270) (omega (arith, c .if1 .taken)))
 
 returns-2 : tie.Need-returns-2
-returns-2 c =
-    let high : leb (c .before .args .ambient) (zeroDegrees + 270) ≡ false = lt-leb _ _ (c .if1 .left) in
-    simp high
+returns-2 c = simp (lt-leb (c .before .args .ambient) (zeroDegrees + 270) (omega (arith, c .if1 .left)))
 
 pub surface-limit-spec : {M : Type 1} → statement M
 surface-limit-spec = tie.close (tie.spec add-if1 add-result add-result-2 returns returns-2)
