@@ -1,12 +1,15 @@
 #!/usr/bin/env python3
-"""The annex, computed apart from the program under test: each step as an exact fraction, rounded once.
+"""The annex, computed apart from the program under test: each step as an exact fraction, rounded once, and the printed loss limits.
 
 The program's expected output was made from the project's folder by
 
     python3 tools/annex.py > crates/annex/stdout
 """
 from fractions import Fraction
+from itertools import zip_longest
 from math import ceil, floor
+
+from sheet import SEASONAL, YEAR_ROUND
 
 
 def under(i):
@@ -27,6 +30,8 @@ def main():
             print(tenths // 10, low, high)
         low += under(tenths)
         high += over(tenths)
+    print("limits")
+    print(*(limit for row in zip_longest(YEAR_ROUND, SEASONAL, fillvalue=0) for limit in row))
 
 
 main()

@@ -1,21 +1,29 @@
--- The annex as it is printed: a header, then a line for each entry with the whole millimetre and the two figures, separated by one space.
+-- The annex as it is printed. 02, N3, wants the loss limits in it.
 -- Assumes nothing.
 use Prim.Native.Nat.{ℕ, zero, suc, _+_}
 use mathlib.Core.List.{List, [], _++_}
+use lib.ListN.{getD}
 use Rattle.annex_tables.specs.Annex.{entries, annexEntry}
+use Rattle.limits.specs.FlatTable.{flatTable}
 use Rattle.text.specs.Text.{ascii, numberAnd}
 
-abbrev pub header : List ℕ
-header = ascii "mm under over\n"
+-- the first n pieces of a text, one after the other
+unfoldable pub pieces : (ℕ → List ℕ) → ℕ → List ℕ
+pieces piece zero = []
+pieces piece (suc n) = pieces piece n ++ piece n
 
--- entry k stands at 10 + k mm; a space is byte 32, the end of a line byte 10
+-- entry k: the whole millimetre, which is 10 + k, and the two figures, separated by one space. A space is byte 32, the end of a line byte 10.
 unfoldable pub line : ℕ → List ℕ
 line k = numberAnd (10 + k) 32 ++ numberAnd (annexEntry k .lower) 32 ++ numberAnd (annexEntry k .upper) 10
 
--- the first n lines
-unfoldable pub lines : ℕ → List ℕ
-lines zero = []
-lines (suc n) = lines n ++ line n
+-- number k of the loss limits, and the byte after it
+abbrev pub limit : ℕ → ℕ → List ℕ
+limit after k = numberAnd (getD flatTable k 0) after
 
+-- the 26 loss limits on one line, separated by one space
+abbrev pub limitsLine : List ℕ
+limitsLine = pieces (limit 32) 25 ++ limit 10 25
+
+-- a header, a line for each entry, and the loss limits after a line that names them
 abbrev pub page : List ℕ
-page = header ++ lines entries
+page = ascii "mm under over\n" ++ pieces line entries ++ ascii "limits\n" ++ limitsLine

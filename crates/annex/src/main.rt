@@ -4,7 +4,7 @@ ghost use lib.ListN.{length};
 ghost use Rattle.annex_tables.specs.Annex.{entries};
 ghost use Rattle.io.specs.Counts.{Counts};
 ghost use Rattle.overlay.specs.Overlay.{Written};
-ghost use Rattle.annex.specs.Page.{line, page};
+ghost use Rattle.annex.specs.Page.{pieces, line, limitsLine, page};
 use libc::STDERR_FILENO;
 use libc::STDOUT_FILENO;
 
@@ -20,19 +20,47 @@ fn put_line(out: &mut [u8], at: usize, k: usize) -> usize
     text::put_number(out, upper, figures.upper, b'\n')
 }
 
-// Puts the whole page at the start of out, and returns where it ends.
-fn put_page(out: &mut [u8]) -> usize
-    requires { ⌜ 14 + 63 * entries ≤ length (now out) ⌝ }
-    ensures { λ r. ⌜ Written (now (out .entry)) 0 page (now (out .exit)) r ⌝ }
-    ensures { λ r. ⌜ Counts r (now (out .exit)) ⌝ }
+// Puts the lines of all entries.
+fn put_figures(out: &mut [u8], at: usize) -> usize
+    requires { ⌜ at + 63 * entries ≤ length (now out) ⌝ }
+    ensures { λ r. ⌜ Written (now (out .entry)) at (pieces line entries) (now (out .exit)) r ⌝ }
+    ensures { λ r. ⌜ r ≤ at + 63 * entries ⌝ }
 {
-    let mut end = overlay::put(out, 0, b"mm under over\n");
+    let mut end = at;
     let mut k = 0;
     while k < annex_tables::ENTRIES {
         end = put_line(out, end, k);
         k += 1;
     }
     end
+}
+
+// Puts the loss limits on one line.
+fn put_limits(out: &mut [u8], at: usize) -> usize
+    requires { ⌜ at + 546 ≤ length (now out) ⌝ }
+    ensures { λ r. ⌜ Written (now (out .entry)) at limitsLine (now (out .exit)) r ⌝ }
+    ensures { λ r. ⌜ r ≤ at + 546 ⌝ }
+{
+    let table = limits::flat_table();
+    let mut end = at;
+    let mut k = 0;
+    while k < 25 {
+        end = text::put_number(out, end, table[k], b' ');
+        k += 1;
+    }
+    text::put_number(out, end, table[25], b'\n')
+}
+
+// Puts the whole page at the start of out, and returns where it ends.
+fn put_page(out: &mut [u8]) -> usize
+    requires { ⌜ 567 + 63 * entries ≤ length (now out) ⌝ }
+    ensures { λ r. ⌜ Written (now (out .entry)) 0 page (now (out .exit)) r ⌝ }
+    ensures { λ r. ⌜ Counts r (now (out .exit)) ⌝ }
+{
+    let header = overlay::put(out, 0, b"mm under over\n");
+    let figures = put_figures(out, header);
+    let title = overlay::put(out, figures, b"limits\n");
+    put_limits(out, title)
 }
 
 fn main() {

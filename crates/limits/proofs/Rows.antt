@@ -1,4 +1,4 @@
--- The table of limits: where the rows on either side of a temperature stand, and what the code's table holds there.
+-- The table of limits: where the rows on either side of a temperature stand, and what the limit is there.
 -- Assumes nothing.
 use mathlib.Core.Path.{_≡_, refl, _∙_}
 use mathlib.Core.Bool.{Bool, true, false, cond, _||_, or-true}
@@ -13,20 +13,6 @@ use borrow.Author.Tests.{le-leb, lt-leb}
 use borrow.Enum.Match.{AllBelow, each-below}
 use Rattle.big_endian.specs.Bytes.{zeroDegrees}
 use Rattle.limits.specs.Limits.{Row, Neighbours, table, unprinted, counted, column, limitOf, neighbours, interpolated, lossLimit}
-
--- A row as the code holds it, and what is read there.
-abbrev cells : Row → List ℕ
-cells r = r .yearRound ∷ r .seasonal ∷ []
-
-cell : (r : Row) (service : ℕ) → 1 ≤ service → service ≤ 4 → getD (cells r) ((service - 1) % 2) 0 ≡ column service r
-cell r service low high = each-below 5 (λ s. 1 ≤ s → getD (cells r) ((s - 1) % 2) 0 ≡ column s r) (omega arith) service (omega arith) low
-
-pub read :
-    (rs : List Row) (i service : ℕ) → i < length rs → 1 ≤ service → service ≤ 4 →
-    getD (getD (map cells rs) i []) ((service - 1) % 2) 0 ≡ column service (getD rs i unprinted)
-read [] i service lt low high = absurd (not-suc-le-zero lt)
-read (r ∷ rs) zero service lt low high = cell r service low high
-read (r ∷ rs) (suc i) service lt low high = read rs i service (le-of-suc-le-suc lt) low high
 
 -- the rows counted from 1; 0 stands for none, and so does every number after the last row's
 abbrev pub nth : ℕ → Row

@@ -1,3 +1,4 @@
 pub mod Limits
+pub mod FlatTable
 pub mod Promises
 pub mod Worked

@@ -3,24 +3,45 @@ ghost use mathlib.Core.Path.{_≡_};
 ghost use Prim.Native.Nat.{_+_, _≤_, _<_};
 ghost use Rattle.big_endian.specs.Bytes.{zeroDegrees};
 ghost use Rattle.limits.specs.Limits.{rowAt, column, interpolated, lossLimit, surfaceLimit};
+ghost use Rattle.limits.specs.FlatTable.{flatTable};
 use big_endian::ZERO;
 
-// The limits in W/m² at 50 °C, 100 °C and so on to 650 °C, year-round and seasonal; 0 where none is printed.
-const LIMITS: [[u64; 2]; 13] = [
-    [58, 116],
-    [93, 163],
-    [116, 203],
-    [140, 244],
-    [163, 273],
-    [186, 296],
-    [209, 308],
-    [227, 314],
-    [244, 0],
-    [262, 0],
-    [279, 0],
-    [296, 0],
-    [314, 0],
+// The limits in W/m², row by row from 50 °C to 650 °C, year-round before seasonal; 0 where none is printed.
+const LIMITS: [u64; 26] = [
+    58,
+    116, // 50 °C
+    93,
+    163, // 100 °C
+    116,
+    203, // 150 °C
+    140,
+    244, // 200 °C
+    163,
+    273, // 250 °C
+    186,
+    296, // 300 °C
+    209,
+    308, // 350 °C
+    227,
+    314, // 400 °C
+    244,
+    0, // 450 °C
+    262,
+    0, // 500 °C
+    279,
+    0, // 550 °C
+    296,
+    0, // 600 °C
+    314,
+    0, // 650 °C
 ];
+
+// The table as one flat list.
+pub fn flat_table() -> [u64; 26]
+    ensures { λ r. ⌜ r ≡ flatTable ⌝ }
+{
+    LIMITS
+}
 
 // The limit of heat loss in 0.1 W/m² for a service and a pipe's temperature, counted from −3,276.8 °C, or 0 where none is printed.
 pub fn loss_limit(service: u64, temperature: u64) -> u64
@@ -48,7 +69,7 @@ fn printed(row: u64, service: u64) -> u64
     requires { ⌜ (row < 13) × (1 ≤ service) × (service ≤ 4) ⌝ }
     ensures { λ r. ⌜ (r ≡ column service (rowAt row)) × (r ≤ 314) ⌝ }
 {
-    LIMITS[row as usize][((service - 1) % 2) as usize]
+    LIMITS[(2 * row + (service + 1) % 2) as usize]
 }
 
 // The limit in 0.1 W/m² on the straight line between two rows, which are 50.0 °C apart, at a temperature that is `beyond` tenths of a degree

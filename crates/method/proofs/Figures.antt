@@ -1,6 +1,7 @@
 -- The figures of docs/METHOD.md, by computation.
 -- Assumes nothing.
 use mathlib.Core.Path.{refl}
+use mathlib.Core.List.{flatMap}
 use Rattle.quadrature.specs.Sums.{summed}
 use Rattle.quadrature.specs.Figures.{lowerStep, upperStep}
 use Rattle.quadrature.specs.Cuttings.{cutSum}
@@ -46,8 +47,18 @@ the-cylinder =
     }
 
 the-same-hotter : Hotter
-unfolding summed lowerStep upperStep least insulation film insulationBounds filmBounds provided requirement enclosing firstNotInsufficient bigEndian bytesOf decoded neighbours lossLimit lossCheck surfaceCheck surfaceBound encoded answerOf anyOutside respond
-the-same-hotter = record { required = refl; loss-limit = refl; loss-required = refl; surface-required = refl; bound = refl; answer = refl }
+unfolding summed lowerStep upperStep least insulation film insulationBounds filmBounds provided requirement enclosing firstNotInsufficient bigEndian bytesOf decoded neighbours lossLimit flatMap lossCheck surfaceCheck surfaceBound encoded answerOf anyOutside respond
+the-same-hotter =
+    record {
+      required = refl;
+      limits = refl;
+      row-1 = (refl, refl);
+      loss-limit = refl;
+      loss-required = refl;
+      surface-required = refl;
+      bound = refl;
+      answer = refl;
+    }
 
 between-millimetres : Between
 unfolding summed lowerStep upperStep
@@ -81,12 +92,13 @@ the-flat-wall =
     }
 
 between-rows : BetweenRows
-unfolding summed lowerStep upperStep least insulation film insulationBounds filmBounds provided requirement enclosing firstNotInsufficient bigEndian bytesOf decoded neighbours lossLimit lossCheck surfaceCheck surfaceBound encoded answerOf anyOutside respond
+unfolding summed lowerStep upperStep least insulation film insulationBounds filmBounds provided requirement enclosing firstNotInsufficient bigEndian bytesOf decoded neighbours lossLimit flatMap lossCheck surfaceCheck surfaceBound encoded answerOf anyOutside respond
 between-rows =
     record {
       required = refl;
       at-30 = refl;
       at-40 = refl;
+      rows-1-and-2 = (refl, refl, refl);
       rows = (refl, refl);
       line = (refl, refl);
       limit = (refl, refl);

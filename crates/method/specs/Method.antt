@@ -3,6 +3,7 @@
 use Prim.Native.Nat.{ℕ, _+_, _*_}
 use mathlib.Core.Path.{_≡_}
 use mathlib.Core.List.{List, [], _∷_, _++_}
+use lib.ListN.{getD}
 use Rattle.fractions.specs.declared.Bounds.{Bounds}
 use Rattle.fractions.specs.Fraction.{_over_}
 use Rattle.fractions.specs.Rounding.{ceiling}
@@ -17,6 +18,7 @@ use Rattle.big_endian.specs.Bytes.{bytesOf, zeroDegrees, offsetBinary}
 use Rattle.sheet.specs.Sheet.{decoded, difference, goalOf}
 use Rattle.sheet.specs.Search.{requiredOf, chosen}
 use Rattle.limits.specs.Limits.{table, unprinted, limitOf, neighbours, interpolated, lossLimit, surfaceLimit}
+use Rattle.limits.specs.FlatTable.{flatTable, place}
 use Rattle.sheet.specs.Answer.{surfaceBound}
 use Rattle.sheet.specs.Refusals.{responseTo}
 use Rattle.sheet.specs.Worked.{sheetF, sheetG}
@@ -73,6 +75,12 @@ pub record Cylinder : Type 0 where
 
 pub record Hotter : Type 0 where
   pub required : requiredOf (decoded hotter) (goalOf (decoded hotter)) ≡ bounds 34_145_507 34_145_508
+  -- the loss limits as the annex prints them, and where the one of row 1 and service 1 stands
+  pub limits :
+      flatTable ≡
+      58 ∷ 116 ∷ 93 ∷ 163 ∷ 116 ∷ 203 ∷ 140 ∷ 244 ∷ 163 ∷ 273 ∷ 186 ∷ 296 ∷ 209 ∷ 308 ∷ 227 ∷ 314 ∷ 244 ∷ 0 ∷ 262 ∷ 0 ∷ 279 ∷ 0 ∷ 296 ∷ 0 ∷
+      314 ∷ 0 ∷ []
+  pub row-1 : (place 1 1 ≡ 2) × (getD flatTable 2 0 ≡ 93)
   pub loss-limit : lossLimit 1 (zeroDegrees + 1_300) ≡ 930
   pub loss-required : requiredOf (decoded hotter) (Loss 930) ≡ bounds 75_193_548 75_193_549
   pub surface-required : requiredOf (decoded hotter) (Surface 250) ≡ bounds 13_658_203 13_658_204
@@ -108,6 +116,8 @@ pub record BetweenRows : Type 0 where
   pub required : requiredOf (decoded (wall 3)) (goalOf (decoded (wall 3))) ≡ bounds 41_509_433 41_509_434
   pub at-30 : provided (decoded (wall 3) .line) 30 ≡ bounds 33_439_380 33_439_381
   pub at-40 : provided (decoded (wall 3) .line) 40 ≡ bounds 43_439_380 43_439_381
+  -- where the limits of rows 1 and 2 stand for service 3
+  pub rows-1-and-2 : (place 1 3 ≡ 2) × (place 2 3 ≡ 4) × (getD flatTable 4 0 ≡ 116)
   -- the rows of 100 and 150 °C, and the straight line between them at 130.0 and 129.9 °C
   pub rows : let rows = neighbours (zeroDegrees + 1_300) unprinted table in (limitOf 3 (rows .below) ≡ 930) × (limitOf 3 (rows .above) ≡ 1_160)
   pub line : (interpolated 930 1_160 500 300 ≡ 1_068) × (interpolated 930 1_160 500 299 ≡ 1_067)

@@ -1,21 +1,11 @@
 -- `annex::put_line` meets its contract: the three fields are one piece.
 -- Assumes nothing.
-use mathlib.Core.Path.{_≡_, subst}
-use mathlib.Core.List.{List}
-use Prim.Native.Nat.{ℕ}
 use native.Mathlib.Omega.{arith}
 use borrow.Author.Needs.{needs}
-use Rattle.fractions.proofs.Sides.{lower-of, upper-of}
-use Rattle.overlay.specs.Overlay.{Written}
-use Rattle.text.specs.Text.{numberAnd}
 use Rattle.overlay.proofs.Overlay.{then}
 use Rattle.annex.specs.Page.{line}
 use Rattle.annex.proofs.put_line.Statement.{statement}
 use Rattle.annex.proofs.put_line.Tie as tie
-
--- the same, of an equal number
-of-number : (after : ℕ) {b c : List ℕ} {at m n e : ℕ} → Written b at (numberAnd m after) c e → m ≡ n → Written b at (numberAnd n after) c e
-of-number after {b} {c} {at} {e = e} w same = subst (λ (x : ℕ). Written b at (numberAnd x after) c e) same w
 
 entry-requires : tie.Need-entry-requires
 entry-requires c κs = search needs
@@ -45,8 +35,8 @@ returns c =
     let first = mm .put-number .ensures in
     let second = under .put-number2 .ensures in
     let third = over .put-number3 .ensures in
-    let two = then (first .0) (omega arith) (of-number 32 (second .0) (lower-of entry)) in
-    (then two (omega arith) (of-number 10 (third .0) (upper-of entry)), omega arith)
+    let two = then (first .0) (omega arith) (rw entry at (second .0)) in
+    (then two (omega arith) (rw entry at (third .0)), omega arith)
 
 pub put-line-spec : {M : Type 1} → statement M
 put-line-spec =

@@ -1,75 +1,55 @@
--- `annex::put_page` meets its contract. The loop's invariant: the first k lines stand after the header. The measure is what is left of the entries.
+-- `annex::put_page` meets its contract: the four pieces are one.
 -- Assumes nothing.
-use mathlib.Core.Path.{_≡_}
-use Prim.Native.Nat.{_+_, _-_, _*_, _≤_}
-use native.Mathlib.Numerals.{add-one}
 use native.Mathlib.Omega.{arith}
 use borrow.Author.Needs.{needs}
-use lib.ListN.{length}
-use Rattle.annex_tables.specs.Annex.{entries}
-use Rattle.overlay.specs.Overlay.{Written}
-use Rattle.overlay.proofs.Overlay.{nothing, then}
+use Rattle.overlay.proofs.Overlay.{then}
 use Rattle.text.proofs.Counts.{counts}
-use Rattle.annex.specs.Page.{lines}
 use Rattle.annex.proofs.put_page.Statement.{statement}
 use Rattle.annex.proofs.put_page.Tie as tie
 
-abbrev Inv-loop : tie.InvT-loop
-Inv-loop out₀ end₀ k₀ out end k = (k ≤ entries) × (end ≤ 14 + 63 * k) × (length out ≡ length out₀) × Written out₀ end₀ (lines k) out end
-
-abbrev μ-loop : tie.MeasureT-loop
-μ-loop out₀ end₀ k₀ out end k = entries - k
-
-slice-aggregate-put : tie.Need-slice-aggregate-put Inv-loop μ-loop
+slice-aggregate-put : tie.Need-slice-aggregate-put
 slice-aggregate-put c = search needs
 
-put-requires : tie.Need-put-requires Inv-loop μ-loop
+put-requires : tie.Need-put-requires
 put-requires c κs = omega arith
 
-loop-holds : tie.Need-loop-holds Inv-loop μ-loop
-unfolding lines
-loop-holds c =
-    let put = c .before .before .put in
-    (omega arith, omega (arith, put .ensures .end), search needs, nothing (put .last .0) (put .result))
+put-figures-requires : tie.Need-put-figures-requires
+put-figures-requires c κs = omega arith
 
-put-line-requires : tie.Need-put-line-requires Inv-loop μ-loop
-put-line-requires c κs = omega arith
+slice-aggregate-put-2 : tie.Need-slice-aggregate-put-2
+slice-aggregate-put-2 c = search needs
 
-add-k : tie.Need-add-k Inv-loop μ-loop
-add-k c = search needs
+put-requires-2 : tie.Need-put-requires-2
+put-requires-2 c κs = omega arith
 
-loop-less : tie.Need-loop-less Inv-loop μ-loop
-loop-less c = search needs
+put-limits-requires : tie.Need-put-limits-requires
+put-limits-requires c κs = omega arith
 
-loop-again : tie.Need-loop-again Inv-loop μ-loop
-unfolding lines
-loop-again c =
-    let loop = c .before .before .before .before .before .loop in
-    let put = c .before .before .put-line .ensures in
-    (omega arith, omega arith, omega arith, rw (add-one (loop .k)) (then (loop .inv .3) (omega arith) (put .0)))
-
-same-length : tie.Need-same-length Inv-loop μ-loop
+same-length : tie.Need-same-length
 same-length c = search needs
 
-returns : tie.Need-returns Inv-loop μ-loop
+returns : tie.Need-returns
 returns c =
-    let loop = c .before .loop in
-    let header = c .before .before .before .before .put .ensures in
-    let all : loop .k ≡ entries = omega arith in
-    (then header (omega (arith, header .end)) (rw all at (loop .inv .3)), counts (loop .end) (loop .out) (omega arith))
+    let at-limits = c .before .before in
+    let at-title = at-limits .before .before .before .before in
+    let at-figures = at-title .before .before .before .before .before in
+    let header = at-figures .before .before .before .before .put .ensures in
+    let figures = at-figures .put-figures .ensures in
+    let title = at-title .put2 .ensures in
+    let limits = at-limits .put-limits .ensures in
+    let two = then header (omega arith) (figures .0) in
+    let three = then two (omega arith) title in
+    (then three (omega arith) (limits .0), counts _ _ (omega arith))
 
 pub put-page-spec : {M : Type 1} → statement M
 put-page-spec =
     tie.close
     (tie.spec
-    Inv-loop
-    μ-loop
     slice-aggregate-put
     put-requires
-    loop-holds
-    put-line-requires
-    add-k
-    loop-less
-    loop-again
+    put-figures-requires
+    slice-aggregate-put-2
+    put-requires-2
+    put-limits-requires
     same-length
     returns)

@@ -1,36 +1,42 @@
--- The limit in a row and a column meets its contract: the code's table is the printed one.
+-- The limit in a row for a service meets its contract.
 -- Assumes nothing.
-use Prim.Native.Nat.{suc}
+use mathlib.Core.Path.{_≡_, refl}
+use mathlib.Core.List.{flatMap}
+use Prim.Native.Nat.{ℕ, suc, _≤_, _<_}
 use native.Mathlib.Omega.{arith}
-use Rattle.limits.specs.Limits.{table}
-use Rattle.limits.proofs.Rows.{read, limit-small}
+use lib.ListN.{getD}
+use Rattle.limits.specs.Limits.{rowAt, column}
+use Rattle.limits.specs.FlatTable.{flatTable, place}
+use Rattle.limits.proofs.Rows.{limit-small}
+use Rattle.limits.proofs.FlatTable.{flat-table}
 use borrow.Author.Needs.{needs}
 use Rattle.limits.proofs.printed.Statement.{statement}
 use Rattle.limits.proofs.printed.Tie as tie
 
-sub-result : tie.Need-sub-result
-sub-result c = search needs
+-- what the flat list has at a place
+read :
+    {p : ℕ} (row service : ℕ) → p < 26 → p ≡ place row service → row < 13 → 1 ≤ service → service ≤ 4 →
+    (getD flatTable p 0 ≡ column service (rowAt row)) × (getD flatTable p 0 ≤ 314)
+read row service in-list at lt low high = rw (at, flat-table .holds row service lt low high) (refl, limit-small service (suc row) lt)
 
 mul-result : tie.Need-mul-result
 mul-result c = search needs
 
+add-result : tie.Need-add-result
+add-result c = search needs
+
+add-result-2 : tie.Need-add-result-2
+add-result-2 c = search needs
+
 mul-result-2 : tie.Need-mul-result-2
 mul-result-2 c = search needs
 
-index-1-result : tie.Need-index-1-result
-index-1-result c = search needs
-
-index-2-result : tie.Need-index-2-result
-index-2-result c = search needs
+array-read-result : tie.Need-array-read-result
+array-read-result c = search needs
 
 returns : tie.Need-returns
-returns c =
-    let a = c .before .args in
-    let pre = c .before .pre in
-    let is = read table (a .row) (a .service) (pre .0) (pre .1) (pre .2) in
-    (is, omega (arith, is, limit-small (a .service) (suc (a .row)) (pre .0)))
+unfolding flatMap
+returns c = read (c .args .row) (c .args .service) (array-read-result c) (omega arith) (c .pre .0) (c .pre .1) (c .pre .2)
 
 pub printed-spec : {M : Type 1} → statement M
-printed-spec =
-    tie.close
-    (tie.spec sub-result mul-result mul-result-2 index-1-result index-2-result returns)
+printed-spec = tie.close (tie.spec mul-result add-result add-result-2 mul-result-2 array-read-result returns)

@@ -1,0 +1,27 @@
+-- The table of loss limits as one flat list. 02, N3.
+-- Assumes nothing.
+use Prim.Native.Nat.{ℕ, _+_, _*_, _%_, _≤_, _<_}
+use mathlib.Core.Path.{_≡_}
+use mathlib.Core.List.{List, [], _∷_, flatMap}
+use lib.ListN.{length, getD}
+use Rattle.limits.specs.Limits.{Row, table, rowAt, column}
+
+-- a row's limits, "year-round before seasonal"
+abbrev pub columns : Row → List ℕ
+columns r = r .yearRound ∷ r .seasonal ∷ []
+
+-- "a single run of 26 numbers with the columns side by side: row by row", "0 where none is printed"
+abbrev pub flatTable : List ℕ
+flatTable = flatMap columns table
+
+-- "find the place by arithmetic on row and service": the first row is row 0, and a year-round service is odd
+abbrev pub place : ℕ → ℕ → ℕ
+place row service = 2 * row + (service + 1) % 2
+
+pub record FlatTable : Type 0 where
+  -- "26 numbers"
+  pub size : length flatTable ≡ 26
+  -- "for every row and all four services it holds the printed limit, or 0"
+  pub holds :
+      (row service : ℕ) → row < length table → 1 ≤ service → service ≤ 4 →
+      getD flatTable (place row service) 0 ≡ column service (rowAt row)
