@@ -1,4 +1,4 @@
--- The annex as it is printed. 02, N3, wants the loss limits in it.
+-- The annex as it is printed: the figures, and with them the loss limits (02, N3).
 -- Assumes nothing.
 use Prim.Native.Nat.{ℕ, zero, suc, _+_}
 use mathlib.Core.List.{List, [], _++_}
@@ -20,10 +20,10 @@ line k = numberAnd (10 + k) 32 ++ numberAnd (annexEntry k .lower) 32 ++ numberAn
 abbrev pub limit : ℕ → ℕ → List ℕ
 limit after k = numberAnd (getD flatTable k 0) after
 
--- the 26 loss limits on one line, separated by one space
+-- the 26 loss limits on one line, separated by one space: 25 with a space after each, the last with the end of the line
 abbrev pub limitsLine : List ℕ
 limitsLine = pieces (limit 32) 25 ++ limit 10 25
 
--- a header, a line for each entry, and the loss limits after a line that names them
+-- a header and a line for each entry, a title and the loss limits
 abbrev pub page : List ℕ
 page = ascii "mm under over\n" ++ pieces line entries ++ ascii "limits\n" ++ limitsLine

@@ -37,9 +37,9 @@ fn put_figures(out: &mut [u8], at: usize) -> usize
 
 // Puts the loss limits on one line.
 fn put_limits(out: &mut [u8], at: usize) -> usize
-    requires { ⌜ at + 546 ≤ length (now out) ⌝ }
+    requires { ⌜ at + 26 * 21 ≤ length (now out) ⌝ }
     ensures { λ r. ⌜ Written (now (out .entry)) at limitsLine (now (out .exit)) r ⌝ }
-    ensures { λ r. ⌜ r ≤ at + 546 ⌝ }
+    ensures { λ r. ⌜ r ≤ at + 26 * 21 ⌝ }
 {
     let table = limits::flat_table();
     let mut end = at;
@@ -53,7 +53,7 @@ fn put_limits(out: &mut [u8], at: usize) -> usize
 
 // Puts the whole page at the start of out, and returns where it ends.
 fn put_page(out: &mut [u8]) -> usize
-    requires { ⌜ 567 + 63 * entries ≤ length (now out) ⌝ }
+    requires { ⌜ 14 + 63 * entries + 7 + 26 * 21 ≤ length (now out) ⌝ }
     ensures { λ r. ⌜ Written (now (out .entry)) 0 page (now (out .exit)) r ⌝ }
     ensures { λ r. ⌜ Counts r (now (out .exit)) ⌝ }
 {

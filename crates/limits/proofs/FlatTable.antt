@@ -10,7 +10,7 @@ use lib.ListN.{getD}
 use borrow.Author.Tests.{eqb-true}
 use borrow.Enum.Match.{AllBelow, each-below}
 use Rattle.limits.specs.Limits.{rowAt, column}
-use Rattle.limits.specs.FlatTable.{flatTable, place, FlatTable}
+use Rattle.limits.specs.FlatTable.{flatTable, place, Placement}
 
 -- a test passes at every number below n
 abbrev all : ℕ → (ℕ → Bool) → Bool
@@ -30,13 +30,14 @@ each n test t = each-below n (λ k. test k ≡ true) (passed n test t)
 abbrev held : ℕ → ℕ → Bool
 held row service = eqb (getD flatTable (place row service) 0) (column service (rowAt row))
 
+-- all rows, and all services up to 4; none is numbered 0, where it passes as well
 tested : all 13 (λ row. all 5 (held row)) ≡ true
 unfolding flatMap
 tested = refl
 
-pub flat-table : FlatTable
+pub placement : Placement
 unfolding flatMap
-flat-table =
+placement =
     record {
       size = refl;
       holds = λ row service lt low high.

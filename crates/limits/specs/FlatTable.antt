@@ -18,7 +18,8 @@ flatTable = flatMap columns table
 abbrev pub place : ℕ → ℕ → ℕ
 place row service = 2 * row + (service + 1) % 2
 
-pub record FlatTable : Type 0 where
+-- what is promised of the list
+pub record Placement : Type 0 where
   -- "26 numbers"
   pub size : length flatTable ≡ 26
   -- "for every row and all four services it holds the printed limit, or 0"

@@ -8,7 +8,7 @@ use lib.ListN.{getD}
 use Rattle.limits.specs.Limits.{rowAt, column}
 use Rattle.limits.specs.FlatTable.{flatTable, place}
 use Rattle.limits.proofs.Rows.{limit-small}
-use Rattle.limits.proofs.FlatTable.{flat-table}
+use Rattle.limits.proofs.FlatTable.{placement}
 use borrow.Author.Needs.{needs}
 use Rattle.limits.proofs.printed.Statement.{statement}
 use Rattle.limits.proofs.printed.Tie as tie
@@ -17,7 +17,7 @@ use Rattle.limits.proofs.printed.Tie as tie
 read :
     {p : ℕ} (row service : ℕ) → p < 26 → p ≡ place row service → row < 13 → 1 ≤ service → service ≤ 4 →
     (getD flatTable p 0 ≡ column service (rowAt row)) × (getD flatTable p 0 ≤ 314)
-read row service in-list at lt low high = rw (at, flat-table .holds row service lt low high) (refl, limit-small service (suc row) lt)
+read row service in-list at lt low high = rw (at, placement .holds row service lt low high) (refl, limit-small service (suc row) lt)
 
 mul-result : tie.Need-mul-result
 mul-result c = search needs
