@@ -1,5 +1,5 @@
 #!/usr/bin/env python3
-"""The annex, computed apart from the program under test: each step as an exact fraction, rounded once, and the printed loss limits.
+"""The annex, computed apart from the program under test: each step as an exact fraction, rounded once; then the printed loss limits.
 
 The program's expected output was made from the project's folder by
 

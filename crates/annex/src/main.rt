@@ -4,7 +4,7 @@ ghost use lib.ListN.{length};
 ghost use Rattle.annex_tables.specs.Annex.{entries};
 ghost use Rattle.io.specs.Counts.{Counts};
 ghost use Rattle.overlay.specs.Overlay.{Written};
-ghost use Rattle.annex.specs.Page.{pieces, line, limitsLine, page};
+ghost use Rattle.annex.specs.Page.{concatenated, line, limitsLine, page};
 use libc::STDERR_FILENO;
 use libc::STDOUT_FILENO;
 
@@ -23,7 +23,7 @@ fn put_line(out: &mut [u8], at: usize, k: usize) -> usize
 // Puts the lines of all entries.
 fn put_figures(out: &mut [u8], at: usize) -> usize
     requires { ⌜ at + 63 * entries ≤ length (now out) ⌝ }
-    ensures { λ r. ⌜ Written (now (out .entry)) at (pieces line entries) (now (out .exit)) r ⌝ }
+    ensures { λ r. ⌜ Written (now (out .entry)) at (concatenated line entries) (now (out .exit)) r ⌝ }
     ensures { λ r. ⌜ r ≤ at + 63 * entries ⌝ }
 {
     let mut end = at;

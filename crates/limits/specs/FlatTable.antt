@@ -6,13 +6,9 @@ use mathlib.Core.List.{List, [], _∷_, flatMap}
 use lib.ListN.{length, getD}
 use Rattle.limits.specs.Limits.{Row, table, rowAt, column}
 
--- a row's limits, "year-round before seasonal"
-abbrev pub columns : Row → List ℕ
-columns r = r .yearRound ∷ r .seasonal ∷ []
-
--- "a single run of 26 numbers with the columns side by side: row by row", "0 where none is printed"
+-- "a single run of 26 numbers with the columns side by side: row by row, year-round before seasonal, 0 where none is printed"
 abbrev pub flatTable : List ℕ
-flatTable = flatMap columns table
+flatTable = flatMap (λ (r : Row). r .yearRound ∷ r .seasonal ∷ []) table
 
 -- "find the place by arithmetic on row and service": the first row is row 0, and a year-round service is odd
 abbrev pub place : ℕ → ℕ → ℕ

@@ -36,7 +36,7 @@ const LIMITS: [u64; 26] = [
     0, // 650 °C
 ];
 
-// The table as one flat list.
+// The printed limits as one flat list.
 pub fn flat_table() -> [u64; 26]
     ensures { λ r. ⌜ r ≡ flatTable ⌝ }
 {

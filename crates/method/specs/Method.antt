@@ -117,7 +117,7 @@ pub record BetweenRows : Type 0 where
   pub at-30 : provided (decoded (wall 3) .line) 30 ≡ bounds 33_439_380 33_439_381
   pub at-40 : provided (decoded (wall 3) .line) 40 ≡ bounds 43_439_380 43_439_381
   -- where the limits of rows 1 and 2 stand for service 3
-  pub rows-1-and-2 : (place 1 3 ≡ 2) × (place 2 3 ≡ 4) × (getD flatTable 4 0 ≡ 116)
+  pub places : (place 1 3 ≡ 2) × (place 2 3 ≡ 4) × (getD flatTable 4 0 ≡ 116)
   -- the rows of 100 and 150 °C, and the straight line between them at 130.0 and 129.9 °C
   pub rows : let rows = neighbours (zeroDegrees + 1_300) unprinted table in (limitOf 3 (rows .below) ≡ 930) × (limitOf 3 (rows .above) ≡ 1_160)
   pub line : (interpolated 930 1_160 500 300 ≡ 1_068) × (interpolated 930 1_160 500 299 ≡ 1_067)

@@ -9,18 +9,19 @@ use lib.ListN.{length}
 use Rattle.annex_tables.specs.Annex.{entries}
 use Rattle.overlay.specs.Overlay.{Written}
 use Rattle.overlay.proofs.Overlay.{nothing, then}
-use Rattle.annex.specs.Page.{pieces, line}
+use Rattle.annex.specs.Page.{concatenated, line}
 use Rattle.annex.proofs.put_figures.Statement.{statement}
 use Rattle.annex.proofs.put_figures.Tie as tie
 
 abbrev Inv-loop : tie.InvT-loop
-Inv-loop out₀ at end₀ k₀ out end k = (k ≤ entries) × (end ≤ at + 63 * k) × (length out ≡ length out₀) × Written out₀ at (pieces line k) out end
+Inv-loop out₀ at end₀ k₀ out end k =
+    (k ≤ entries) × (end ≤ at + 63 * k) × (length out ≡ length out₀) × Written out₀ at (concatenated line k) out end
 
 abbrev μ-loop : tie.MeasureT-loop
 μ-loop out₀ at end₀ k₀ out end k = entries - k
 
 loop-holds : tie.Need-loop-holds Inv-loop μ-loop
-unfolding pieces
+unfolding concatenated
 loop-holds c = (omega arith, omega arith, search needs, nothing _ _)
 
 put-line-requires : tie.Need-put-line-requires Inv-loop μ-loop
@@ -33,7 +34,7 @@ loop-less : tie.Need-loop-less Inv-loop μ-loop
 loop-less c = search needs
 
 loop-again : tie.Need-loop-again Inv-loop μ-loop
-unfolding pieces
+unfolding concatenated
 loop-again c =
     let loop = c .before .before .before .before .before .loop in
     let put = c .before .before .put-line .ensures in

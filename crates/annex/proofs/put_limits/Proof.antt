@@ -1,4 +1,5 @@
--- `annex::put_limits` meets its contract. The loop's invariant: the first k limits stand there, with a space after each. The measure is what is left of the 25.
+-- `annex::put_limits` meets its contract. The loop's invariant: the first k limits stand there, with a space after each.
+-- The measure is what is left of the 25.
 -- Assumes nothing.
 use mathlib.Core.Path.{_≡_}
 use Prim.Native.Nat.{_+_, _-_, _*_, _≤_}
@@ -8,12 +9,13 @@ use borrow.Author.Needs.{needs}
 use lib.ListN.{length}
 use Rattle.overlay.specs.Overlay.{Written}
 use Rattle.overlay.proofs.Overlay.{nothing, then}
-use Rattle.annex.specs.Page.{pieces, limit}
+use Rattle.annex.specs.Page.{concatenated, limit}
 use Rattle.annex.proofs.put_limits.Statement.{statement}
 use Rattle.annex.proofs.put_limits.Tie as tie
 
 abbrev Inv-loop : tie.InvT-loop
-Inv-loop out₀ at table end₀ k₀ out end k = (k ≤ 25) × (end ≤ at + 21 * k) × (length out ≡ length out₀) × Written out₀ at (pieces (limit 32) k) out end
+Inv-loop out₀ at table end₀ k₀ out end k =
+    (k ≤ 25) × (end ≤ at + 21 * k) × (length out ≡ length out₀) × Written out₀ at (concatenated (limit 32) k) out end
 
 abbrev μ-loop : tie.MeasureT-loop
 μ-loop out₀ at table end₀ k₀ out end k = 25 - k
@@ -22,7 +24,7 @@ flat-table-requires : tie.Need-flat-table-requires Inv-loop μ-loop
 flat-table-requires c κs = search needs
 
 loop-holds : tie.Need-loop-holds Inv-loop μ-loop
-unfolding pieces
+unfolding concatenated
 loop-holds c = (omega arith, omega arith, search needs, nothing _ _)
 
 mul-put-number : tie.Need-mul-put-number Inv-loop μ-loop
@@ -41,7 +43,7 @@ loop-less : tie.Need-loop-less Inv-loop μ-loop
 loop-less c = search needs
 
 loop-again : tie.Need-loop-again Inv-loop μ-loop
-unfolding pieces
+unfolding concatenated
 loop-again c =
     let at-loop = c .before .before .before .before .before in
     let loop = at-loop .loop in

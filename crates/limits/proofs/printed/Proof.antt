@@ -1,4 +1,4 @@
--- The limit in a row for a service meets its contract.
+-- `printed` meets its contract: the code's list is the flat one, which has the row's limit at the place.
 -- Assumes nothing.
 use mathlib.Core.Path.{_≡_, refl}
 use mathlib.Core.List.{flatMap}
@@ -13,11 +13,13 @@ use borrow.Author.Needs.{needs}
 use Rattle.limits.proofs.printed.Statement.{statement}
 use Rattle.limits.proofs.printed.Tie as tie
 
--- what the flat list has at a place
+-- what the flat list has at a place in it
 read :
-    {p : ℕ} (row service : ℕ) → p < 26 → p ≡ place row service → row < 13 → 1 ≤ service → service ≤ 4 →
+    {p : ℕ} (row service : ℕ) → p < 26 → p ≡ place row service → 1 ≤ service → service ≤ 4 →
     (getD flatTable p 0 ≡ column service (rowAt row)) × (getD flatTable p 0 ≤ 314)
-read row service in-list at lt low high = rw (at, placement .holds row service lt low high) (refl, limit-small service (suc row) lt)
+read row service in-list at low high =
+    let lt : row < 13 = omega arith in
+    rw (at, placement .holds row service lt low high) (refl, limit-small service (suc row) lt)
 
 mul-result : tie.Need-mul-result
 mul-result c = search needs
@@ -36,7 +38,7 @@ array-read-result c = search needs
 
 returns : tie.Need-returns
 unfolding flatMap
-returns c = read (c .args .row) (c .args .service) (array-read-result c) (omega arith) (c .pre .0) (c .pre .1) (c .pre .2)
+returns c = read (c .args .row) (c .args .service) (array-read-result c) (omega arith) (c .pre .1) (c .pre .2)
 
 pub printed-spec : {M : Type 1} → statement M
 printed-spec = tie.close (tie.spec mul-result add-result add-result-2 mul-result-2 array-read-result returns)
