@@ -6,15 +6,17 @@ around 130.0 °C.
 """
 import sys
 
-LOSS = 2
-AIMS = {1: 1_100, 2: 1_900, 3: 1_100, 4: 1_900}  # by service, in 0.1 W/m²
+sys.dont_write_bytecode = True
+from plant import SERVICES, sheet
+
+AIMS = {"year": "110.0", "season": "190.0", "year-i": "110.0", "season-i": "190.0"}  # by service, in W/m²
 
 
-def sheet(service, t):
-    """The 24 bytes for a duct of 2 m at t, in air of 20.0 °C, with 0.0400 W/(m·K) and 11.63 W/(m²·K)."""
-    fields = (10_000 * service + t, 20_000, t, 200, 400, 1_163, 0, 0, 0, 0, AIMS[service])
-    return bytes([LOSS, service]) + b"".join(x.to_bytes(2, "big") for x in fields)
+def duct(service, t):
+    """A duct of 2 m at t tenths of a degree, in air of 20.0 °C, with 0.0400 W/(m·K) and 11.63 W/(m²·K), as a row of the plant's table."""
+    line = 10_000 * SERVICES[service] + t
+    return f"{line} loss {service} 2000.0 {t // 10}.{t % 10} 20.0 0.0400 11.63 0 0 0 0 {AIMS[service]}"
 
 
 TEMPERATURES = sorted([1_299, 1_300, 1_301, *(500 * row + by for row in range(1, 14) for by in (-1, 0, 1, 250))])
-sys.stdout.buffer.write(b"".join(sheet(service, t) for service in AIMS for t in TEMPERATURES if t <= 6_500))
+sys.stdout.buffer.write(b"".join(sheet(duct(service, t)) for service in AIMS for t in TEMPERATURES if t <= 6_500))

@@ -7,14 +7,13 @@ from math import gcd
 
 from sheet import MEETS, MISSES, OPEN, judge, loss_limit, ratio, root, sheet_of, up
 
-NAMES = "goal service D t ta L alpha f tau P S aim".split()
 UNDER = [0, *accumulate(2 * 10**12 // (2 * i + 1) for i in range(100, 16_000))]
 OVER = [0, *accumulate(up(10**12 * (2 * i + 1), 2 * i * (i + 1)) for i in range(100, 16_000))]
 
 
 def packed(x):
     """The bytes of the sheet x."""
-    return sheet_of(*(x[name] for name in NAMES), line=x["line"])
+    return sheet_of(**x)
 
 
 def fields(r, goal, flat, **fixed):

@@ -3,7 +3,8 @@
 
     python3 tools/sheet.py goal service D t ta L alpha f tau P S aim
 
-prints the eight bytes of the answer, or the word refused and the refusal's number. t, ta and a surface aim may be negative.
+prints the eight bytes of the answer, or the word refused and the refusal's number. t, ta and a surface aim may be negative. A number
+that its field cannot hold stops the script.
 """
 import sys
 from fractions import Fraction
@@ -12,6 +13,7 @@ from math import floor, isqrt
 YEAR_ROUND = [58, 93, 116, 140, 163, 186, 209, 227, 244, 262, 279, 296, 314]
 SEASONAL = [116, 163, 203, 244, 273, 296, 308, 314]
 MEETS, MISSES, OPEN = 0, 1, 2
+NAMES = "goal service line D t ta L alpha f tau P S aim".split()
 
 
 def up(n, d):
@@ -61,6 +63,20 @@ def signed(x):
     return x - 65_536 if x >= 32_768 else x
 
 
+def is_signed(name, goal):
+    """Whether a field of a sheet is signed."""
+    return name in ("t", "ta") or name == "aim" and goal == 3
+
+
+def encoded(name, value, size=2, negative=False):
+    """The bytes of a field, unsigned or, where it may be negative, signed. A value that they cannot hold stops the script."""
+    low = -(256**size // 2) if negative else 0
+    high = low + 256**size - 1
+    if not low <= value <= high:
+        sys.exit(f"{name} is {value:,}, but its field holds {low:,} to {high:,}")
+    return value.to_bytes(size, "big", signed=negative)
+
+
 def answer(sheet):
     """The refusal's number, or the eight bytes."""
     if len(sheet) != 24:
@@ -103,17 +119,27 @@ def answer(sheet):
     loss = 3 if limit is None else judge(h, ratio(n * L * delta * 10**5, limit))
     limit = 500 if ta <= 270 else ta + 250
     surface = MEETS if t <= limit else judge(h, ratio(n * L * delta * 10**7, alpha * (limit - ta)))
-    bound = min(t, ta + up(n * L * 10**7 * delta, alpha * h[0])) % 65_536
-    return [0, 3 - n, k // 256, k % 256, loss, surface, bound // 256, bound % 256]
+    bound = min(t, ta + up(n * L * 10**7 * delta, alpha * h[0]))
+    return [0, 3 - n, *encoded("thickness", k), loss, surface, *encoded("surface bound", bound, negative=True)]
 
 
-def sheet_of(goal, service, *fields, line=0):
-    """The bytes of a sheet; the fields are those from D to aim."""
-    return bytes([goal, service]) + b"".join((x % 65_536).to_bytes(2, "big") for x in (line, *fields))
+def sheet_of(line=0, **fields):
+    """The bytes of a sheet, from its fields by their names."""
+    x = {"line": line, **fields}
+    return b"".join(encoded(name, x[name], 1 if name in ("goal", "service") else 2, is_signed(name, x["goal"])) for name in NAMES)
+
+
+def whole(name, text):
+    """The whole number that a text says."""
+    try:
+        return int(text)
+    except ValueError:
+        sys.exit(f"{name} is {text}, but its field holds whole numbers")
 
 
 if __name__ == "__main__":
     if len(sys.argv) != 13:
         sys.exit(__doc__.strip())
-    result = answer(sheet_of(*map(int, sys.argv[1:])))
+    given = zip((name for name in NAMES if name != "line"), sys.argv[1:])
+    result = answer(sheet_of(**{name: whole(name, text) for name, text in given}))
     print(f"refused {result}" if isinstance(result, int) else " ".join(map(str, result)))

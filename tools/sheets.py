@@ -13,10 +13,10 @@ from random import Random
 sys.dont_write_bytecode = True
 from near import (aimed, allowed, between, chosen, close_loss, close_surface, edge, fields, have, level, moved, open_at,
                   over_loss, packed, surface_limit, within_loss)
-from sheet import answer, sheet_of, signed
+from sheet import answer, is_signed, signed
 
-F = sheet_of(2, 1, 12_000, 1_300, 200, 400, 800, 0, 0, 0, 0, 800, line=7)
-G = sheet_of(2, 1, 10_001, 300, 200, 400, 1_163, 0, 0, 0, 0, 1_163, line=9)
+F = dict(goal=2, service=1, line=7, D=12_000, t=1_300, ta=200, L=400, alpha=800, f=0, tau=0, P=0, S=0, aim=800)
+G = dict(goal=2, service=1, line=9, D=10_001, t=300, ta=200, L=400, alpha=1_163, f=0, tau=0, P=0, S=0, aim=1_163)
 LINES = [0, 1, 9, 10, 99, 100, 255, 256, 999, 1_000, 9_999, 10_000, 32_767, 32_768, 65_534, 65_535]
 RANGES = dict(D=(100, 65_535), t=(-500, 6_500), ta=(-500, 500), L=(1, 2_000), alpha=(100, 10_000))
 PRICES = dict(f=(1, 65_535), tau=(1, 8_784), P=(1, 65_535), S=(1, 10_000))
@@ -38,6 +38,12 @@ def good(r, **fixed):
         x = between(r, fields(r, *kind(r), **fixed), rung(r))
         if x:
             return x
+
+
+def wrapped(x):
+    """The faulty sheet x with its fields as their bits read: bits drawn at random, or an aim under a goal that it was not made for."""
+    bits = {name: value % 65_536 for name, value in x.items()}
+    return {name: signed(value) if is_signed(name, x["goal"]) else value for name, value in bits.items()}
 
 
 def answered(r):
@@ -85,7 +91,7 @@ def beyond(r):
 def unknown_code(r):
     """A goal or a service that is not known."""
     name, known = r.choice([("goal", 3), ("service", 4)])
-    return [{**good(r), name: r.choice([0, known + 1, known + 2, 255, r.randint(known + 1, 255)])}]
+    return [wrapped({**good(r), name: r.choice([0, known + 1, known + 2, 255, r.randint(known + 1, 255)])})]
 
 
 def range_edges(r):
@@ -125,7 +131,7 @@ def aim_edge(r):
     if x["goal"] == 1:
         return [{**x, "aim": r.choice([0, 1, 65_535])}]
     at = r.choice([0, x["ta"], x["t"]])
-    return [{**x, "aim": at + r.choice([-1, 0, 1])}]
+    return [wrapped({**x, "aim": at + r.choice([-1, 0, 1])})]
 
 
 def around_zero(r):
@@ -262,7 +268,7 @@ def several_faults(r):
               dict(alpha=99), dict(P=bad), dict(f=bad), dict(t=x["ta"]), dict(t=x["ta"] - 1), dict(aim=1 - bad)]
     for fault in r.sample(faults, r.randint(2, 3)):
         x.update(fault)
-    return [x]
+    return [wrapped(x)]
 
 
 def random_bytes(r):
@@ -270,7 +276,7 @@ def random_bytes(r):
     x = good(r)
     for name in ["line", "D", "t", "ta", "L", "alpha", "f", "tau", "P", "S", "aim"]:
         x[name] = r.randint(0, 65_535)
-    return [x if r.random() < 0.7 else {**x, "goal": r.randint(0, 255), "service": r.randint(0, 255)}]
+    return [wrapped(x if r.random() < 0.7 else {**x, "goal": r.randint(0, 255), "service": r.randint(0, 255)})]
 
 
 KINDS = [(answered, 200), (small_pipe, 80), (border_diameter, 10), (any_aim, 60), (bare, 30), (top, 30), (beyond, 60),
@@ -288,7 +294,7 @@ def sheets():
     r.shuffle(made)
     for x in made:
         x["line"] = r.choice([r.randint(0, 65_535), r.randint(0, 65_535), r.choice(LINES)])
-    return [F, G, *map(packed, made), packed(good(r))[:17]]
+    return [*map(packed, [F, G, *made]), packed(good(r))[:17]]
 
 
 def classes(sheet):

@@ -482,8 +482,18 @@ def worked():
     yield "worked-p9", {**F, "goal": 3, "aim": F["t"]}, 16
 
 
+def upper_case():
+    """The digits A to F: these vectors are printed in upper case."""
+    letters = {**LOSS, "line": 0xFEDC, "D": 0xABCD}
+    yield "upper-case-flat", letters, dict(shape=2, bound=284)
+    yield "upper-case-cylinder", {**ECONOMY, "line": 0xABCD}, dict(mm=20)
+    yield "upper-case-below-zero", {**letters, "t": -10, "ta": -300}, dict(mm=10, bound=-225)
+    yield "upper-case-refused", {**letters, "service": 0xAF}, 12
+
+
 GROUPS = [diameters, economy, table_4, lengths, codes, ranges, single_bytes, unused, warmer, aims, around_zero, bounds, two_cases,
-          rows, limits, interpolated_limits, surface_limits, checks, rungs, open_rungs, edges, equal, wrong_turns, held, worked]
+          rows, limits, interpolated_limits, surface_limits, checks, rungs, open_rungs, edges, equal, wrong_turns, held, worked,
+          upper_case]
 
 
 def vectors():
@@ -502,11 +512,16 @@ def vectors():
             yield name, sheet, result
 
 
+def digits(name, data):
+    """Bytes in hexadecimal, in upper case where the name says so."""
+    return bytes(data).hex().upper() if name.startswith("upper-case-") else bytes(data).hex()
+
+
 def main():
     """Prints the vectors, or what the program must print on them."""
     if sys.argv[1:] == ["vectors"]:
         for name, sheet, result in vectors():
-            print(name, sheet.hex() or "-", f"refused {result}" if isinstance(result, int) else bytes(result).hex())
+            print(name, digits(name, sheet) or "-", f"refused {result}" if isinstance(result, int) else digits(name, result))
     elif sys.argv[1:] == ["expected"]:
         lines = [f"{name} ok: {line(sheet)}" for name, sheet, _ in vectors()]
         print(*lines, f"{len(lines)} vectors, 0 failed", sep="\n")
