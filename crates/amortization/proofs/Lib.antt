@@ -1,5 +1,3 @@
-pub mod Computed
-pub mod Inside
 pub mod Growth
 pub mod Enclosure
-pub mod Promises
+pub mod Given

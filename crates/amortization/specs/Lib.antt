@@ -1,6 +1,5 @@
 pub mod Growth
 pub mod Share
+pub mod Ranges
 pub mod Refusals
 pub mod Outcome
-pub mod Promises
-pub mod Worked

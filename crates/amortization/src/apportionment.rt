@@ -1,8 +1,8 @@
 // The yearly share, or its refusal.
 ghost use mathlib.Core.Path.{_≡_};
-ghost use Prim.Native.Nat.{_≤_};
 ghost use Rattle.amortization.specs.Growth.{roundedTo};
 ghost use Rattle.amortization.specs.Share.{shareBy};
+ghost use Rattle.amortization.specs.Ranges.{InRange};
 ghost use Rattle.amortization.specs.Refusals.{shareResponse};
 ghost use Rattle.amortization.specs.Outcome.{response};
 use crate::compounding::PRINCIPAL;
@@ -36,8 +36,7 @@ pub fn share(rate: u64, years: u64) -> YearlyShare
 
 // The share by a growth that is rounded each year.
 fn share_by(rate: u64, years: u64, rounding: Rounding) -> u64
-    requires { ⌜ (1 ≤ rate) × (rate ≤ 3_000) ⌝ }
-    requires { ⌜ (2 ≤ years) × (years ≤ 30) ⌝ }
+    requires { ⌜ InRange rate years ⌝ }
     ensures { λ r. ⌜ r ≡ shareBy (roundedTo rounding) rate years ⌝ }
 {
     let growth = growth(rate, years, rounding);

@@ -1,10 +1,12 @@
 -- The two ends round alike at all 87,000 pairs of a rate and a term but three: one test that antt computes, a row of 29 terms for each rate.
 -- Assumes nothing.
-use mathlib.Core.Path.{_≡_, refl, subst, ap}
+use mathlib.Core.Path.{_≡_, refl, ap}
 use mathlib.Core.Bool.{Bool, true, false, not, _&&_, _||_, and-eq-true-iff, false≢true}
+use mathlib.Core.Logic.{inl, inr}
+use mathlib.Mathlib.Data.Bool.Basic.{dichotomy}
 use mathlib.Core.List.{List, [], _∷_, List·Memᴰ, List·Memᴰ·head, List·Memᴰ·tail}
 use Prim.Native.Nat.{ℕ, zero, suc, _+_, _-_, _<_}
-use native.Mathlib.Nat.{add-zero, add-sub-of-le, le-of-suc-le-suc, not-suc-le-zero}
+use native.Mathlib.Nat.{add-zero, add-suc, suc-add, add-sub-of-le, le-of-suc-le-suc, not-suc-le-zero}
 use native.Mathlib.Omega.{arith}
 use lib.Dec.{eqb}
 use borrow.Author.Tests.{eqb-true, not-true}
@@ -17,7 +19,8 @@ use Rattle.refusals.proofs.Response.{absent, behind, front}
 use Rattle.amortization.specs.Growth.{principal, year, growth}
 use Rattle.amortization.specs.Share.{share, shareBy}
 use Rattle.amortization.specs.Refusals.{shareResponse}
-use Rattle.amortization.proofs.Inside.{Inside, both-inside}
+use Rattle.amortization.specs.Ranges.{InRange}
+use Rattle.amortization.proofs.Given.{in-range}
 use Rattle.amortization_pairs.specs.Pairs.{undecided, AllPairs}
 
 -- a pair is in a list, by its test
@@ -53,59 +56,47 @@ module _ (one : ℕ → Bool) (all : ℕ → ℕ → Bool) (first : (k n : ℕ) 
   each : (k n : ℕ) → all k n ≡ true → (j : ℕ) → j < k → one (n + j) ≡ true
   each zero n t j lt = absurd (not-suc-le-zero lt)
   each (suc k) n t zero lt = rw (add-zero n) (first k n t .0)
-  each (suc k) n t (suc j) lt =
-      let place : suc n + j ≡ n + suc j = omega arith in
-      subst (λ (m : ℕ). one m ≡ true) place (each k (suc n) (first k n t .1) j (le-of-suc-le-suc lt))
+  each (suc k) n t (suc j) lt = rw (add-suc, ← suc-add) (each k (suc n) (first k n t .1) j (le-of-suc-le-suc lt))
 
 -- the test at a pair
 abbrev at : ℕ → ℕ → Bool
 at i n = passes i n (growth floor i n) (growth ceiling i n)
 
-row-at : (k i n : ℕ) → row k i n (growth floor i n) (growth ceiling i n) ≡ true → (j : ℕ) → j < k → at i (n + j) ≡ true
+row-at : (i : ℕ) → whole i ≡ true → (j : ℕ) → j < 29 → at i (2 + j) ≡ true
 unfolding growth
-row-at k i n =
-    each (at i) (λ k n. row k i n (growth floor i n) (growth ceiling i n)) (λ k n. and-eq-true-iff (at i n) (row k i (suc n) (growth floor i (suc n)) (growth ceiling i (suc n))) .0) k n
+row-at i =
+    each (at i) (λ k n. row k i n (growth floor i n) (growth ceiling i n)) (λ k n. and-eq-true-iff (at i n) (row k i (suc n) (growth floor i (suc n)) (growth ceiling i (suc n))) .0) 29 2
 
-rows-at : (k i : ℕ) → rows k i ≡ true → (j : ℕ) → j < k → whole (i + j) ≡ true
-rows-at = each whole rows (λ k i. and-eq-true-iff (whole i) (rows k (suc i)) .0)
-
-pair-passes : (i n : ℕ) → Inside i n → at i n ≡ true
+pair-passes : (i n : ℕ) → InRange i n → at i n ≡ true
 pair-passes i n h =
-    let its-row = subst (λ (m : ℕ). whole m ≡ true) (add-sub-of-le (h .rate-least)) (rows-at 3_000 1 tested (i - 1) (omega (arith, h .rate-least, h .rate-most))) in
-    subst (λ (m : ℕ). at i m ≡ true) (add-sub-of-le (h .term-least)) (row-at 29 i 2 its-row (n - 2) (omega (arith, h .term-least, h .term-most)))
+    let its-row = each whole rows (λ k i. and-eq-true-iff (whole i) (rows k (suc i)) .0) 3_000 1 tested (i - 1) (omega arith) in
+    rw (add-sub-of-le (h .term-least)) at (row-at i (rw (add-sub-of-le (h .rate-least)) at its-row) (n - 2) (omega arith))
 
 -- The three are refused with 42.
-abbrev Refused : List (ℕ × ℕ) → Type 0
-Refused [] = Unit {0}
-Refused (p ∷ ps) = (shareResponse (p .0) (p .1) ≡ refused 42) × Refused ps
-
-three-refused : Refused undecided
+three-refused : (i n : ℕ) → List·Memᴰ (i, n) undecided → shareResponse i n ≡ refused 42
 unfolding respond growth
-three-refused = (refl, (refl, (refl, tt)))
+three-refused i n (List·Memᴰ·head e) = rw (ap (λ (p : ℕ × ℕ). p .0) e, ap (λ (p : ℕ × ℕ). p .1) e)
+three-refused i n (List·Memᴰ·tail (List·Memᴰ·head e)) = rw (ap (λ (p : ℕ × ℕ). p .0) e, ap (λ (p : ℕ × ℕ). p .1) e)
+three-refused i n (List·Memᴰ·tail (List·Memᴰ·tail (List·Memᴰ·head e))) = rw (ap (λ (p : ℕ × ℕ). p .0) e, ap (λ (p : ℕ × ℕ). p .1) e)
 
-one-refused : (i n : ℕ) {ps : List (ℕ × ℕ)} → Refused ps → List·Memᴰ (i, n) ps → shareResponse i n ≡ refused 42
-one-refused i n all (List·Memᴰ·head e) = rw (ap (λ (p : ℕ × ℕ). p .0) e, ap (λ (p : ℕ × ℕ). p .1) e) (all .0)
-one-refused i n all (List·Memᴰ·tail later) = one-refused i n (all .1) later
-
--- A pair that is refused with 42 is inside its ranges, and its ends round differently: it is one of the three.
+-- A pair that is refused with 42 is in range, and its ends round differently: it is one of the three.
 listed-one : (i n : ℕ) (ps : List (ℕ × ℕ)) → listed i n ps ≡ true → List·Memᴰ (i, n) ps
 listed-one i n [] e = absurd (false≢true e)
-listed-one i n (p ∷ ps) e = go (eqb i (p .0) && eqb n (p .1)) refl e (listed-one i n ps)
-  where
-    go : (b : Bool) → (eqb i (p .0) && eqb n (p .1)) ≡ b → b || listed i n ps ≡ true → (listed i n ps ≡ true → List·Memᴰ (i, n) ps) → List·Memᴰ (i, n) (p ∷ ps)
-    go true is e rest =
-        let both = and-eq-true-iff (eqb i (p .0)) (eqb n (p .1)) .0 is in
-        List·Memᴰ·head (λ j. (eqb-true i (p .0) (both .0) j, eqb-true n (p .1) (both .1) j))
-    go false is e rest = List·Memᴰ·tail (rest e)
+listed-one i n (p ∷ ps) e =
+    elim (dichotomy (eqb i (p .0) && eqb n (p .1))) [
+      | inl f ↦ List·Memᴰ·tail (listed-one i n ps (rw f at e))
+      | inr t ↦
+          let both = and-eq-true-iff (eqb i (p .0)) (eqb n (p .1)) .0 t in
+          List·Memᴰ·head (λ j. (eqb-true i (p .0) (both .0) j, eqb-true n (p .1) (both .1) j))
+    ]
 
 only : (i n : ℕ) → shareResponse i n ≡ refused 42 → List·Memᴰ (i, n) undecided
 unfolding NoneHolds absent
 only i n e =
-    let ranges = outside i 1 3_000 || outside n 2 30 in
     let alike = eqb (shareBy ceiling i n) (shareBy floor i n) in
-    let later = behind 42 (case 41 ranges ∷ []) (case 42 (not alike) ∷ []) (shareBy floor i n ∷ []) refl e in
+    let later = behind 42 (case 41 (outside i 1 3_000 || outside n 2 30) ∷ []) (case 42 (not alike) ∷ []) (shareBy floor i n ∷ []) refl e in
     let apart = front 42 (not alike) [] (shareBy floor i n ∷ []) refl (later .1) in
-    listed-one i n undecided (rw (not-true alike apart) at (pair-passes i n (both-inside i n (later .0 .0))))
+    listed-one i n undecided (rw (not-true alike apart) at (pair-passes i n (in-range i n (later .0 .0))))
 
 pub all-pairs : AllPairs
-all-pairs i n = (only i n, one-refused i n three-refused)
+all-pairs i n = (only i n, three-refused i n)

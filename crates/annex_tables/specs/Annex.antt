@@ -3,6 +3,7 @@
 -- Assumes nothing.
 use Prim.Native.Nat.{ℕ, _+_, _*_}
 use Rattle.fractions.specs.declared.Bounds.{Bounds}
+use Rattle.lengths.specs.Units.{tenths}
 use Rattle.quadrature.specs.Figures.{logBounds}
 
 abbrev pub entries : ℕ
@@ -10,4 +11,4 @@ entries = 1591
 
 -- entry k stands at 10 + k mm
 abbrev pub annexEntry : ℕ → Bounds
-annexEntry k = logBounds 100 (100 + 10 * k)
+annexEntry k = logBounds (tenths 100) (tenths (100 + 10 * k))

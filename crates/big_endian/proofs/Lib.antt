@@ -1,3 +1,2 @@
 pub mod Computed
 pub mod Numerals
-pub mod TwosComplement

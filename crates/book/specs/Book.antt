@@ -5,29 +5,29 @@ use mathlib.Core.List.{List}
 use lib.ListN.{replicate}
 use Rattle.overlay.specs.Overlay.{part, overlay}
 use Rattle.big_endian.specs.Bytes.{bytesOf}
-use Rattle.layout.specs.declared.places.Layout.{Layout}
+use Rattle.layout.specs.declared.offsets.Layout.{Layout}
 use Rattle.layout.specs.Sizes.{capacity, count}
-use Rattle.layout.specs.Layout.{answerSize, countAt, sheetAt, answerAt, bytesFor}
+use Rattle.layout.specs.Layout.{answerSize, countOffset, sheetOffset, answerOffset, bytesFor}
 
 module _ (l : Layout) where
   -- what stands in slot e of each array
   abbrev pub storedSheet : List ℕ → ℕ → List ℕ
-  storedSheet b e = part b (sheetAt l e) (l .sheet)
+  storedSheet b e = part b (sheetOffset l e) (l .sheet)
 
   abbrev pub storedAnswer : List ℕ → ℕ → List ℕ
-  storedAnswer b e = part b (answerAt l (capacity l b) e) answerSize
+  storedAnswer b e = part b (answerOffset l (capacity l b) e) answerSize
 
   -- "A new book is all zero but for c."
   unfoldable pub newBook : ℕ → List ℕ
   newBook c = overlay (replicate (bytesFor l c) 0) (l .lead) (bytesOf (l .width) c)
 
   -- "Filing writes slot n in both arrays"
-  unfoldable pub withSlots : List ℕ → List ℕ → List ℕ → List ℕ
-  withSlots b sheet bytes = overlay (overlay b (sheetAt l (count l b)) sheet) (answerAt l (capacity l b) (count l b)) bytes
+  abbrev pub withSlots : List ℕ → List ℕ → List ℕ → List ℕ
+  withSlots b sheet bytes = overlay (overlay b (sheetOffset l (count l b)) sheet) (answerOffset l (capacity l b) (count l b)) bytes
 
   -- "raises n by one"
-  unfoldable pub withCount : List ℕ → ℕ → List ℕ
-  withCount b n = overlay b (countAt l) (bytesOf (l .width) n)
+  abbrev pub withCount : List ℕ → ℕ → List ℕ
+  withCount b n = overlay b (countOffset l) (bytesOf (l .width) n)
 
   -- "and changes nothing else"
   abbrev pub withEntry : List ℕ → List ℕ → List ℕ → List ℕ

@@ -1,4 +1,2 @@
 pub mod Book
 pub mod Refusals
-pub mod Worked
-pub mod Demands

@@ -11,7 +11,7 @@ use Rattle.refusals.specs.Cases.{Case, case}
 use Rattle.refusals.specs.Response.{Response, refused, complete, respond, after}
 use Rattle.sheet.specs.Answer.{answer}
 use Rattle.sheet.specs.Refusals.{cases, responseTo}
-use Rattle.layout.specs.declared.places.Layout.{Layout}
+use Rattle.layout.specs.declared.offsets.Layout.{Layout}
 use Rattle.layout.specs.Refusals.{wrongSize, bookCases}
 use Rattle.layout.specs.Sizes.{capacity, count}
 use Rattle.book.specs.Book.{storedSheet, storedAnswer, newBook, withEntry}

@@ -5,7 +5,7 @@ ghost use lib.ListN.{length, replicate};
 ghost use Rattle.layout.specs.Layout.{standard};
 ghost use Rattle.book.specs.Refusals.{making, made};
 ghost use Rattle.refusals.specs.Completion.{responseWith};
-use big_endian::put_number;
+use big_endian::write_number;
 use layout::Layout;
 use refusals::Completion;
 use refusals::Refusal;
@@ -20,7 +20,7 @@ pub fn new_book(book: &mut [u8], capacity: u64) -> Completion
         return Completion::Refused(Refusal::BookSize);
     }
     clear(book);
-    put_number(book, layout.lead, layout.width, capacity);
+    write_number(book, layout.lead, layout.width, capacity);
     Completion::Complete
 }
 

@@ -2,13 +2,10 @@
 mod entry;
 
 ghost use mathlib.Core.Path.{_≡_};
-ghost use Rattle.refusals.specs.Cases.{NoneHolds};
 ghost use Rattle.outcome.specs.Outcome.{response};
 ghost use Rattle.layout.specs.Layout.{standard};
-ghost use Rattle.layout.specs.Sizes.{capacity, count};
-ghost use Rattle.layout.specs.Refusals.{bookCases};
+ghost use Rattle.layout.specs.SoundBook.{SoundBook};
 ghost use Rattle.book.specs.Refusals.{filing, filed};
-ghost use Rattle.layout.specs.Usable.{Usable};
 use crate::entry::enter;
 use layout::Examination;
 use layout::Layout;
@@ -31,8 +28,8 @@ pub fn file(book: &mut [u8], sheet: &[u8]) -> Outcome
 
 // Files in a sound book of these sizes.
 fn file_in(layout: Layout, book: &mut [u8], sizes: Sizes, sheet: &[u8]) -> Outcome
-    requires { ⌜ Usable layout × (layout .sheet ≡ 24) × NoneHolds (bookCases layout (now book)) ⌝ }
-    requires { ⌜ (sizes .capacity ≡ capacity layout (now book)) × (sizes .count ≡ count layout (now book)) ⌝ }
+    requires { ⌜ SoundBook layout (now book) sizes ⌝ }
+    requires { ⌜ layout .sheet ≡ 24 ⌝ }
     ensures { λ r. ⌜ response r ≡ filing layout (now (book .entry)) (now (sheet .entry)) ⌝ }
     ensures { λ _. ⌜ now (book .exit) ≡ filed layout (now (book .entry)) (now (sheet .entry)) ⌝ }
 {

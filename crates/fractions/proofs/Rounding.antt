@@ -1,8 +1,8 @@
 -- A fraction rounded down is the largest whole number not above it; rounded up, the least not below it; and the nearest whole number.
 -- Assumes nothing.
-use mathlib.Core.Path.{_≡_, ap}
+use mathlib.Core.Path.{_≡_}
 use Prim.Native.Nat.{ℕ, _+_, _-_, _*_, _/_, _%_, _≤_, _<_}
-use native.Mathlib.Nat.{le-trans, le-of-mul-le-mul-right, div-mul-le-self, lt-div-mul-add, div-add-mod', mod-lt, div-eq-of-lt-le, pos-of-ne-zero, le-mul-of-pos-right, mul-le-mul-right, mul-lt-mul-of-pos-right}
+use native.Mathlib.Nat.{le-trans, le-of-mul-le-mul-right, le-div-iff-mul-le, div-lt-iff-lt-mul, div-mul-le-self, lt-div-mul-add, div-add-mod', mod-lt, div-eq-of-lt-le, pos-of-ne-zero, le-mul-of-pos-right, mul-le-mul-right}
 use native.Mathlib.Omega.{arith}
 use Rattle.fractions.specs.Fraction.{Fraction, _over_, _≼_}
 use Rattle.fractions.specs.Rounding.{floor, ceiling, nearest}
@@ -16,34 +16,18 @@ below-next p pos = omega (arith, lt-div-mul-add {a = p .num} pos)
 pub ceiling-above : (p : Fraction) → 0 < p .den → p .num ≤ ceiling p * p .den
 ceiling-above p pos = omega (arith, lt-div-mul-add {a = p .num + (p .den - 1)} pos)
 
-pub above-previous : (p : Fraction) → 0 < p .den → 0 < ceiling p → (ceiling p - 1) * p .den < p .num
-above-previous p pos some =
-    let down : (ceiling p - 1 + 1) * p .den ≡ ceiling p * p .den = ap (λ x. x * p .den) (omega arith) in
-    omega (arith, div-mul-le-self (p .num + (p .den - 1)) (p .den))
+pub ceiling-least : (p : Fraction) (n : ℕ) → 0 < p .den → p .num ≤ n * p .den → ceiling p ≤ n
+ceiling-least p n pos le = omega (arith, div-lt-iff-lt-mul {x = p .num + (p .den - 1)} {y = n + 1} pos .1 (omega arith))
 
 pub floor-ceiling : (p : Fraction) → 0 < p .den → floor p ≤ ceiling p
 floor-ceiling p pos = le-of-mul-le-mul-right (le-trans (floor-below p) (ceiling-above p pos)) pos
 
 -- a fraction that is no less is rounded to a number that is no less
-module _ (p q : Fraction) (hp : 0 < p .den) (hq : 0 < q .den) (le : p ≼ q) where
-  pub floor-mono : floor p ≤ floor q
-  floor-mono = let not-less : ¬ (floor q < floor p) = less in omega arith
-    where
-      less : ¬ (floor q < floor p)
-      less lt =
-          let p-below = mul-le-mul-right (q .den) (floor-below p) in
-          let q-below = mul-lt-mul-of-pos-right (below-next q hq) hp in
-          omega (arith, p-below, q-below, mul-le-mul-right (q .den * p .den) lt)
+pub floor-mono : (p q : Fraction) → 0 < p .den → 0 < q .den → p ≼ q → floor p ≤ floor q
+floor-mono p q hp hq le = le-div-iff-mul-le hq .1 (le-of-mul-le-mul-right (omega (arith, mul-le-mul-right (q .den) (floor-below p))) hp)
 
-  pub ceiling-mono : ceiling p ≤ ceiling q
-  ceiling-mono = let not-less : ¬ (ceiling q < ceiling p) = less in omega arith
-    where
-      less : ¬ (ceiling q < ceiling p)
-      less lt =
-          let previous : ceiling q ≤ ceiling p - 1 = omega arith in
-          let p-above = mul-lt-mul-of-pos-right (above-previous p hp (omega arith)) hq in
-          let q-above = mul-le-mul-right (p .den) (ceiling-above q hq) in
-          omega (arith, p-above, q-above, mul-le-mul-right (q .den * p .den) previous)
+pub ceiling-mono : (p q : Fraction) → 0 < p .den → 0 < q .den → p ≼ q → ceiling p ≤ ceiling q
+ceiling-mono p q hp hq le = ceiling-least p (ceiling q) hp (le-of-mul-le-mul-right (omega (arith, mul-le-mul-right (p .den) (ceiling-above q hq))) hq)
 
 -- by one division: the quotient itself where nothing is left over, else the next number
 module _ (n d : ℕ) (pos : 0 < d) where
@@ -52,15 +36,11 @@ module _ (n d : ℕ) (pos : 0 < d) where
 
   pub ceiling-next : ¬ (n % d ≡ 0) → ceiling (n over d) ≡ n / d + 1
   ceiling-next some =
-      let left : 0 < n % d = pos-of-ne-zero some in
+      let left = pos-of-ne-zero some in
       div-eq-of-lt-le d {m = n + (d - 1)} (omega (arith, div-add-mod' n d)) (omega (arith, div-add-mod' n d, mod-lt n pos))
 
   pub next-fits : ¬ (n % d ≡ 0) → n / d + 1 ≤ n
   next-fits some = omega (arith, pos-of-ne-zero some, le-mul-of-pos-right (n / d) pos, div-add-mod' n d)
-
--- "a half going up"
-pub half-up : (n : ℕ) → nearest ((2 * n + 1) over 2) ≡ n + 1
-half-up n = omega arith
 
 -- The nearest whole number is a fraction rounded down, half of one being added first.
 abbrev half-more : Fraction → Fraction

@@ -1,3 +1,2 @@
 pub mod Soundness
-pub mod Examined
 pub mod Standard

@@ -1,7 +1,7 @@
 -- Where a book keeps what, for any layout. 01, "The book": "Sizes first, then two parallel arrays".
 -- Assumes nothing.
 use Prim.Native.Nat.{ℕ, _+_, _*_}
-use Rattle.layout.specs.declared.places.Layout.{Layout}
+use Rattle.layout.specs.declared.offsets.Layout.{Layout}
 
 -- 01's book: "capacity c (2 bytes, 1 to 1,000), count n (2 bytes)", nothing before them, and sheets of 24 bytes
 abbrev pub standard : Layout
@@ -13,18 +13,18 @@ answerSize = 8
 
 module _ (l : Layout) where
   -- where the count stands, and where the two sizes end
-  abbrev pub countAt : ℕ
-  countAt = l .lead + l .width
+  abbrev pub countOffset : ℕ
+  countOffset = l .lead + l .width
 
   abbrev pub header : ℕ
-  header = countAt + l .width
+  header = countOffset + l .width
 
   -- "c sheet slots, c answer slots": where slot e of each array starts, the capacity being c
-  abbrev pub sheetAt : ℕ → ℕ
-  sheetAt e = header + l .sheet * e
+  abbrev pub sheetOffset : ℕ → ℕ
+  sheetOffset e = header + l .sheet * e
 
-  abbrev pub answerAt : ℕ → ℕ → ℕ
-  answerAt c e = header + l .sheet * c + answerSize * e
+  abbrev pub answerOffset : ℕ → ℕ → ℕ
+  answerOffset c e = header + l .sheet * c + answerSize * e
 
   -- "Length 4 + 32c."
   abbrev pub bytesFor : ℕ → ℕ

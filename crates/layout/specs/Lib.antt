@@ -3,3 +3,4 @@ pub mod Sizes
 pub mod Refusals
 pub mod Usable
 pub mod Examination
+pub mod SoundBook

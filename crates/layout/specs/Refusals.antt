@@ -9,7 +9,7 @@ use Rattle.refusals.specs.declared.Refusal.the-variants.{BookSize, CountAboveCa
 use Rattle.refusals.specs.Numbers.{numberOf}
 use Rattle.refusals.specs.Range.{outside}
 use Rattle.refusals.specs.Cases.{Case, case}
-use Rattle.layout.specs.declared.places.Layout.{Layout}
+use Rattle.layout.specs.declared.offsets.Layout.{Layout}
 use Rattle.layout.specs.Layout.{header, bytesFor}
 use Rattle.layout.specs.Sizes.{capacity, count}
 

@@ -3,8 +3,8 @@
 use Prim.Native.Nat.{ℕ}
 use mathlib.Core.List.{List}
 use Rattle.big_endian.specs.Bytes.{bigEndian}
-use Rattle.layout.specs.declared.places.Layout.{Layout}
-use Rattle.layout.specs.Layout.{countAt}
+use Rattle.layout.specs.declared.offsets.Layout.{Layout}
+use Rattle.layout.specs.Layout.{countOffset}
 
 module _ (l : Layout) where
   -- c and n
@@ -12,4 +12,4 @@ module _ (l : Layout) where
   capacity b = bigEndian b (l .lead) (l .width)
 
   abbrev pub count : List ℕ → ℕ
-  count b = bigEndian b (countAt l) (l .width)
+  count b = bigEndian b (countOffset l) (l .width)

@@ -1,7 +1,7 @@
 -- What the inner functions ask of a layout. The calls ask nothing: 01's layout meets this.
 -- Assumes nothing.
 use Prim.Native.Nat.{_^_, _≤_, _<_}
-use Rattle.layout.specs.declared.places.Layout.{Layout}
+use Rattle.layout.specs.declared.offsets.Layout.{Layout}
 use Rattle.layout.specs.Layout.{bytesFor}
 
 pub record Usable (l : Layout) : Type 0 where

@@ -6,8 +6,8 @@ ghost use Rattle.layout.specs.Sizes.{capacity as Sizes·capacity, count 
 ghost use Rattle.layout.specs.Refusals.{bookCases};
 ghost use Rattle.layout.specs.Examination.{examined};
 ghost use Rattle.layout.specs.Usable.{Usable};
-use crate::places::Layout;
-use big_endian::number;
+use crate::offsets::Layout;
+use big_endian::read_number;
 use refusals::Refusal;
 
 pub struct Sizes {
@@ -29,8 +29,8 @@ impl Layout {
         if book.len() < self.header() {
             return Examination::Damaged(Refusal::BookSize);
         }
-        let capacity = number(book, self.lead, self.width);
-        let count = number(book, self.lead + self.width, self.width);
+        let capacity = read_number(book, self.lead, self.width);
+        let count = read_number(book, self.count_offset(), self.width);
         if self.wrong_size(book.len(), capacity) {
             return Examination::Damaged(Refusal::BookSize);
         }

@@ -1,7 +1,7 @@
 // Where a book keeps what, and whether its sizes are sound.
 mod examination;
-mod places;
+mod offsets;
 
 pub use examination::Examination;
 pub use examination::Sizes;
-pub use places::Layout;
+pub use offsets::Layout;

@@ -1,46 +1,31 @@
 -- The flat list holds the printed limits: one test of every row and service, which antt computes.
 -- Assumes nothing.
 use mathlib.Core.Path.{_≡_, refl}
-use mathlib.Core.Bool.{Bool, true, _&&_, and-eq-true-iff}
 use mathlib.Core.List.{flatMap}
-use Prim.Native.Nat.{ℕ, zero, suc, _<_}
+use Prim.Native.Nat.{ℕ, _+_, _-_}
+use native.Mathlib.Nat.{sub-add-cancel}
 use native.Mathlib.Omega.{arith}
-use lib.Dec.{eqb}
 use lib.ListN.{getD}
-use borrow.Author.Tests.{eqb-true}
 use borrow.Enum.Match.{AllBelow, each-below}
-use Rattle.limits.specs.Limits.{rowAt, column}
+use Rattle.limits.specs.Limits.{column}
 use Rattle.limits.specs.FlatTable.{flatTable, place, Placement}
+use Rattle.limits.proofs.Rows.{nth, row-indexed}
 
--- a test passes at every number below n
-abbrev all : ℕ → (ℕ → Bool) → Bool
-all zero test = true
-all (suc n) test = test n && all n test
+-- what the list holds for a service, each counted from 0, and a row
+abbrev Held : ℕ → ℕ → Type 0
+Held n row = getD flatTable (place row (n + 1)) 0 ≡ column (n + 1) (nth row)
 
-passed : (n : ℕ) (test : ℕ → Bool) → all n test ≡ true → AllBelow n (λ k. test k ≡ true)
-passed zero test t = tt
-passed (suc n) test t =
-    let both = and-eq-true-iff (test n) (all n test) .0 t in
-    (both .0, passed n test (both .1))
-
-each : (n : ℕ) (test : ℕ → Bool) → all n test ≡ true → (k : ℕ) → k < n → test k ≡ true
-each n test t = each-below n (λ k. test k ≡ true) (passed n test t)
-
--- the test of a row and a service
-abbrev held : ℕ → ℕ → Bool
-held row service = eqb (getD flatTable (place row service) 0) (column service (rowAt row))
-
--- every row, and every service from 0 to 4; there is no service 0, but the test passes there too
-tested : all 13 (λ row. all 5 (held row)) ≡ true
+held : AllBelow 4 (λ n. AllBelow 13 (Held n))
 unfolding flatMap
-tested = refl
+held = (omega arith, (omega arith, (omega arith, (omega arith, tt))))
 
 pub placement : Placement
 unfolding flatMap
 placement =
     record {
       size = refl;
-      holds = λ row service lt low high.
-          let its-row = each 13 (λ row. all 5 (held row)) tested row lt in
-          eqb-true _ _ (each 5 (held row) its-row service (omega arith));
+      within = λ row service lt. omega arith;
+      holds = λ row service r e low high.
+          let at = row-indexed row e in
+          rw (← at .1, ← sub-add-cancel low) (each-below 13 (Held (service - 1)) (each-below 4 (λ n. AllBelow 13 (Held n)) held (service - 1) (omega arith)) row (at .0));
     }

@@ -3,6 +3,7 @@
 use Prim.Native.Nat.{ℕ, _+_, _*_, _%_, _≤_, _<_}
 use mathlib.Core.Path.{_≡_}
 use mathlib.Core.List.{List, [], _∷_, flatMap}
+use mathlib.Core.Option.{some}
 use lib.ListN.{length, getD}
 use Rattle.limits.specs.Limits.{Row, table, rowAt, column}
 
@@ -16,9 +17,10 @@ place row service = 2 * row + (service + 1) % 2
 
 -- what is promised of the list
 pub record Placement : Type 0 where
-  -- "26 numbers"
+  -- "26 numbers", and every place is one of them
   pub size : length flatTable ≡ 26
+  pub within : (row service : ℕ) → row < length table → place row service < 26
   -- "for every row and all four services it holds the printed limit, or 0"
   pub holds :
-      (row service : ℕ) → row < length table → 1 ≤ service → service ≤ 4 →
-      getD flatTable (place row service) 0 ≡ column service (rowAt row)
+      (row service : ℕ) (r : Row) → rowAt row ≡ some r → 1 ≤ service → service ≤ 4 →
+      getD flatTable (place row service) 0 ≡ column service r

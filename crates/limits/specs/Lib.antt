@@ -1,4 +1,2 @@
 pub mod Limits
 pub mod FlatTable
-pub mod Promises
-pub mod Worked

@@ -1,10 +1,11 @@
 // The limits of heat loss and of surface temperature.
 ghost use mathlib.Core.Path.{_≡_};
-ghost use Prim.Native.Nat.{_+_, _≤_, _<_};
-ghost use Rattle.big_endian.specs.Bytes.{zeroDegrees};
-ghost use Rattle.limits.specs.Limits.{rowAt, column, interpolated, lossLimit, surfaceLimit};
-ghost use Rattle.limits.specs.FlatTable.{flatTable};
-use big_endian::ZERO;
+ghost use Prim.Native.Nat.{_≤_, _<_};
+ghost use lib.ListN.{getD};
+ghost use Rattle.temperatures.specs.Temperature.{celsius};
+ghost use Rattle.limits.specs.Limits.{interpolated, lossLimit, surfaceLimit};
+ghost use Rattle.limits.specs.FlatTable.{flatTable, place};
+use temperatures::Temperature;
 
 // The limits in W/m², row by row from 50 °C to 650 °C, year-round before seasonal; 0 where none is printed.
 const LIMITS: [u64; 26] = [
@@ -36,6 +37,9 @@ const LIMITS: [u64; 26] = [
     0, // 650 °C
 ];
 
+// The temperature of the first row, 50.0 °C.
+const FIRST: u16 = Temperature::ZERO + 500;
+
 // The printed limits as one flat list.
 pub fn flat_table() -> [u64; 26]
     ensures { λ r. ⌜ r ≡ flatTable ⌝ }
@@ -43,17 +47,17 @@ pub fn flat_table() -> [u64; 26]
     LIMITS
 }
 
-// The limit of heat loss in 0.1 W/m² for a service and a pipe's temperature, counted from −3,276.8 °C, or 0 where none is printed.
-pub fn loss_limit(service: u64, temperature: u64) -> u64
-    requires { ⌜ (1 ≤ service) × (service ≤ 4) × (temperature ≤ zeroDegrees + 6_500) ⌝ }
+// The limit of heat loss in 0.1 W/m² for a service and a pipe's temperature, or 0 where none is printed.
+pub fn loss_limit(service: u64, temperature: Temperature) -> u64
+    requires { ⌜ (1 ≤ service) × (service ≤ 4) × (temperature .0 ≤ celsius 6_500 .0) ⌝ }
     ensures { λ r. ⌜ r ≡ lossLimit service temperature ⌝ }
 {
-    let first = ZERO + 500;
-    if temperature < first {
+    if temperature.0 < FIRST {
         return 0;
     }
-    let row = (temperature - first) / 500;
-    let beyond = (temperature - first) % 500;
+    let past = (temperature.0 - FIRST) as u64;
+    let row = past / 500;
+    let beyond = past % 500;
     let low = 10 * printed(row, service);
     if service <= 2 {
         return low;
@@ -64,10 +68,10 @@ pub fn loss_limit(service: u64, temperature: u64) -> u64
     interpolate(low, 10 * printed(row + 1, service), beyond)
 }
 
-// The limit in W/m² that is printed in a row, the first being row 0, for a service.
+// The limit in W/m² that the list has for a row, the first being row 0, and a service.
 fn printed(row: u64, service: u64) -> u64
-    requires { ⌜ (row < 13) × (1 ≤ service) × (service ≤ 4) ⌝ }
-    ensures { λ r. ⌜ (r ≡ column service (rowAt row)) × (r ≤ 314) ⌝ }
+    requires { ⌜ (row < 13) × (service ≤ 4) ⌝ }
+    ensures { λ r. ⌜ (r ≡ getD flatTable (place row service) 0) × (r ≤ 314) ⌝ }
 {
     LIMITS[(2 * row + (service + 1) % 2) as usize]
 }
@@ -78,23 +82,20 @@ fn interpolate(low: u64, high: u64, beyond: u64) -> u64
     requires { ⌜ (low ≤ 3_140) × (high ≤ 3_140) × (beyond ≤ 500) ⌝ }
     ensures { λ r. ⌜ r ≡ interpolated low high 500 beyond ⌝ }
 {
-    if low == 0 {
-        return 0;
-    }
-    if high == 0 {
+    if (low == 0) | (high == 0) {
         return 0;
     }
     (low * (500 - beyond) + high * beyond) / 500
 }
 
-// The limit of the surface's temperature where the air has the temperature ambient, both counted from −3,276.8 °C.
-pub fn surface_limit(ambient: u64) -> u64
-    requires { ⌜ ambient ≤ 65_535 ⌝ }
+// The limit of the surface's temperature where the air has the temperature ambient.
+pub fn surface_limit(ambient: Temperature) -> Temperature
+    requires { ⌜ ambient .0 ≤ celsius 6_500 .0 ⌝ }
     ensures { λ r. ⌜ r ≡ surfaceLimit ambient ⌝ }
 {
-    if ambient <= ZERO + 270 {
-        ZERO + 500
+    if ambient.0 <= Temperature::ZERO + 270 {
+        Temperature(Temperature::ZERO + 500)
     } else {
-        ambient + 250
+        Temperature(ambient.0 + 250)
     }
 }

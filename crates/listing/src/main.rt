@@ -3,7 +3,6 @@ ghost use mathlib.Core.Path.{_≡_};
 ghost use mathlib.Core.Bool.{cond};
 ghost use Prim.Native.Nat.{_+_, _-_, _*_, _%_, _≤_};
 ghost use lib.ListN.{length, take};
-ghost use Rattle.io.specs.Counts.{Counts};
 ghost use Rattle.overlay.specs.Overlay.{overlay};
 ghost use Rattle.listing_text.specs.Listing.{linesOf};
 use libc::STDERR_FILENO;
@@ -33,18 +32,18 @@ fn read_once(part: &mut [u8]) -> Read
     }
 }
 
-// One read into a block, from place at on.
-fn read_from(block: &mut [u8], at: usize) -> Read
-    requires { ⌜ at ≤ length (now block) ⌝ }
-    ensures { λ r. ⌜ at + r .count ≤ length (now (block .exit)) ⌝ }
-    ensures { λ _. ⌜ take at (now (block .exit)) ≡ take at (now (block .entry)) ⌝ }
+// One read into a block, from an offset on.
+fn read_from(block: &mut [u8], offset: usize) -> Read
+    requires { ⌜ offset ≤ length (now block) ⌝ }
+    ensures { λ r. ⌜ offset + r .count ≤ length (now (block .exit)) ⌝ }
+    ensures { λ _. ⌜ take offset (now (block .exit)) ≡ take offset (now (block .entry)) ⌝ }
 {
-    read_once(&mut block[at..])
+    read_once(&mut block[offset..])
 }
 
 // Reads until the block is full, the input ends or a read fails.
 fn fill(block: &mut [u8]) -> Input
-    ensures { λ r. ⌜ Counts (r .length) (now (block .exit)) ⌝ }
+    ensures { λ r. ⌜ r .length ≤ length (now (block .exit)) ⌝ }
 {
     let mut length = 0;
     while length < block.len() {
@@ -81,7 +80,7 @@ fn list(sheets: &[u8], out: &mut [u8]) -> bool
     ensures { λ _. ⌜ now (out .exit) ≡ overlay (now (out .entry)) 0 (linesOf (now (sheets .entry))) ⌝ }
 {
     let n = listing_text::put_lines(out, sheets);
-    write(&out[..n])
+    write(&out[0..n])
 }
 
 // How many bytes of a block are listed: all, but where a read failed no more than the whole sheets.
@@ -101,7 +100,7 @@ fn list_block(block: &mut [u8], out: &mut [u8]) -> bool
 {
     let input = fill(block);
     let listed = listed_length(input);
-    if !list(&block[..listed], out) {
+    if !list(&block[0..listed], out) {
         return false;
     }
     if input.failed {
@@ -131,7 +130,7 @@ fn main() {
     let mut block = empty_block();
     let mut out = io::large_buffer();
     let n = listing_text::put_header(&mut out);
-    if write(&out[..n]) {
+    if write(&out[0..n]) {
         list_all(&mut block, &mut out);
     }
 }

@@ -7,35 +7,36 @@ use native.Mathlib.Nat.{add-zero, add-suc}
 use native.Mathlib.Omega.{arith}
 use lib.ListN.{length, take, drop, length-append, length-drop}
 use lib.Seq.{drop-append-add, take-append-le, drop-append-le}
-use Rattle.listing_text.specs.Listing.{pieces, piece, firstLines, linesOf, header, listing}
+use Rattle.text.specs.Text.{concatenated}
+use Rattle.listing_text.specs.Listing.{chunks, chunk, lineAt, linesOf, header, listing}
 
 module _ (a b : List ℕ) (n : ℕ) (whole : length a ≡ 24 * n) where
-  -- the first n pieces are those of a, and the others those of b
-  piece-first : (k : ℕ) → k < n → piece (a ++ b) k ≡ piece a k
-  piece-first k lt =
+  -- the first n chunks are those of a, and the others those of b
+  chunk-first : (k : ℕ) → k < n → chunk (a ++ b) k ≡ chunk a k
+  chunk-first k lt =
       let rest = length-drop (24 * k) a in
-      ap (take 24) (drop-append-le (24 * k) a b (omega arith)) ∙ take-append-le 24 (drop (24 * k) a) b (omega arith)
+      rw (drop-append-le (24 * k) a b (omega arith)) (take-append-le 24 (drop (24 * k) a) b (omega arith))
 
-  piece-later : (k : ℕ) → piece (a ++ b) (n + k) ≡ piece b k
-  piece-later k =
+  chunk-later : (k : ℕ) → chunk (a ++ b) (n + k) ≡ chunk b k
+  chunk-later k =
       let count : 24 * (n + k) ≡ length a + 24 * k = omega arith in
-      ap (λ (x : ℕ). take 24 (drop x (a ++ b))) count ∙ ap (take 24) (drop-append-add a b (24 * k))
+      rw (count, drop-append-add)
 
-  lines-first : (j : ℕ) → j ≤ n → firstLines (a ++ b) j ≡ firstLines a j
-  unfolding firstLines
+  lines-first : (j : ℕ) → j ≤ n → concatenated (lineAt (a ++ b)) j ≡ concatenated (lineAt a) j
+  unfolding concatenated
   lines-first zero le = refl
-  lines-first (suc j) le = rw (lines-first j (omega arith), piece-first j le)
+  lines-first (suc j) le = rw (lines-first j (omega arith), chunk-first j le)
 
-  lines-later : (j : ℕ) → firstLines (a ++ b) (n + j) ≡ firstLines a n ++ firstLines b j
-  unfolding firstLines
+  lines-later : (j : ℕ) → concatenated (lineAt (a ++ b)) (n + j) ≡ concatenated (lineAt a) n ++ concatenated (lineAt b) j
+  unfolding concatenated
   lines-later zero = rw (add-zero, append-nil) (lines-first n (omega arith))
-  lines-later (suc j) = rw (add-suc, ← append-assoc) (rw (firstLines, lines-later j, piece-later j))
+  lines-later (suc j) = rw (add-suc, ← append-assoc) (rw (concatenated, lines-later j, chunk-later j))
 
   pub cut : linesOf (a ++ b) ≡ linesOf a ++ linesOf b
   cut =
-      let all : pieces (a ++ b) ≡ n + pieces b = omega (arith, length-append a b) in
-      let front : pieces a ≡ n = omega arith in
-      ap (firstLines (a ++ b)) all ∙ lines-later (pieces b) ∙ ap (λ (j : ℕ). firstLines a j ++ linesOf b) (sym front)
+      let all : chunks (a ++ b) ≡ n + chunks b = omega (arith, length-append a b) in
+      let front : chunks a ≡ n = omega arith in
+      rw (all, front) (lines-later (chunks b))
 
   -- so a listing goes on, block by block
   pub listing-cut : listing (a ++ b) ≡ listing a ++ linesOf b
@@ -43,5 +44,5 @@ module _ (a b : List ℕ) (n : ℕ) (whole : length a ≡ 24 * n) where
 
 -- "The header always stands first, also for empty input."
 pub listing-empty : listing [] ≡ header
-unfolding firstLines
+unfolding concatenated
 listing-empty = refl

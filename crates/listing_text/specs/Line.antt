@@ -10,8 +10,8 @@ use Rattle.sheet.specs.Sheet.{lineNumber}
 use Rattle.sheet.specs.Refusals.{responseTo}
 use Rattle.answer_text.specs.Response.{spaced, responseText}
 
--- the "line number", which a piece of any other length does not have: "A short last piece, 1 to 23 bytes, prints "- refused 11"."
-unfoldable pub lineNumberText : List ℕ → List ℕ
+-- the "line number", which a chunk of any other length does not have: "A short last piece, 1 to 23 bytes, prints "- refused 11"."
+abbrev pub lineNumberText : List ℕ → List ℕ
 lineNumberText sheet = cond (eqb (length sheet) 24) (decimal (lineNumber sheet)) (ascii "-")
 
 unfoldable pub lineOf : List ℕ → List ℕ

@@ -1,7 +1,6 @@
 // A line of the listing.
 ghost use Prim.Native.Nat.{_+_, _≤_};
 ghost use lib.ListN.{length};
-ghost use Rattle.io.specs.Counts.{Counts};
 ghost use Rattle.overlay.specs.Overlay.{Written};
 ghost use Rattle.sheet.specs.Refusals.{responseTo};
 ghost use Rattle.answer_text.specs.Response.{spaced, responseText};
@@ -12,43 +11,42 @@ use big_endian::unsigned;
 use outcome::Outcome;
 use outcome::work_out;
 use overlay::put;
-use text::put_number;
+use text::put_decimal_and;
 
-// Puts the line for a sheet from place at on, and returns where it ends. A line has no more than 108 bytes.
-pub fn put_line(out: &mut [u8], at: usize, sheet: &[u8]) -> usize
-    requires { ⌜ at + 108 ≤ length (now out) ⌝ }
-    ensures { λ r. ⌜ Written (now (out .entry)) at (lineOf (now (sheet .entry))) (now (out .exit)) r ⌝ }
-    ensures { λ r. ⌜ Counts r (now (out .exit)) ⌝ }
-    ensures { λ r. ⌜ r ≤ at + 108 ⌝ }
+// Puts the line for a sheet from an offset on, and returns where it ends. A line has no more than 108 bytes.
+pub fn put_line(out: &mut [u8], offset: usize, sheet: &[u8]) -> usize
+    requires { ⌜ offset + 108 ≤ length (now out) ⌝ }
+    ensures { λ r. ⌜ Written (now (out .entry)) offset (lineOf (now (sheet .entry))) (now (out .exit)) r ⌝ }
+    ensures { λ r. ⌜ r ≤ offset + 108 ⌝ }
 {
-    let response = put_line_number(out, at, sheet);
+    let response = put_line_number(out, offset, sheet);
     let end = put_response(out, response, sheet);
     put(out, end, b"\n")
 }
 
 // The line number, and a space.
-fn put_line_number(out: &mut [u8], at: usize, sheet: &[u8]) -> usize
-    requires { ⌜ at + 21 ≤ length (now out) ⌝ }
-    ensures { λ r. ⌜ Written (now (out .entry)) at (spaced (lineNumberText (now (sheet .entry)))) (now (out .exit)) r ⌝ }
-    ensures { λ r. ⌜ r ≤ at + 21 ⌝ }
+fn put_line_number(out: &mut [u8], offset: usize, sheet: &[u8]) -> usize
+    requires { ⌜ offset + 21 ≤ length (now out) ⌝ }
+    ensures { λ r. ⌜ Written (now (out .entry)) offset (spaced (lineNumberText (now (sheet .entry)))) (now (out .exit)) r ⌝ }
+    ensures { λ r. ⌜ r ≤ offset + 21 ⌝ }
 {
     if sheet.len() == 24 {
-        return put_number(out, at, unsigned(sheet, 2), b' ');
+        return put_decimal_and(out, offset, unsigned(sheet, 2), b' ');
     }
-    put(out, at, b"- ")
+    put(out, offset, b"- ")
 }
 
 // What a sheet comes to.
-fn put_response(out: &mut [u8], at: usize, sheet: &[u8]) -> usize
-    requires { ⌜ at + 86 ≤ length (now out) ⌝ }
-    ensures { λ r. ⌜ Written (now (out .entry)) at (responseText (responseTo (now (sheet .entry)))) (now (out .exit)) r ⌝ }
-    ensures { λ r. ⌜ r ≤ at + 86 ⌝ }
+fn put_response(out: &mut [u8], offset: usize, sheet: &[u8]) -> usize
+    requires { ⌜ offset + 86 ≤ length (now out) ⌝ }
+    ensures { λ r. ⌜ Written (now (out .entry)) offset (responseText (responseTo (now (sheet .entry)))) (now (out .exit)) r ⌝ }
+    ensures { λ r. ⌜ r ≤ offset + 86 ⌝ }
 {
     match work_out(sheet) {
-        Outcome::Refused(why) => put_refusal(out, at, why),
+        Outcome::Refused(why) => put_refusal(out, offset, why),
         Outcome::Answered(answer) => {
             let bytes = answer.encode();
-            put_answer(out, at, &bytes)
+            put_answer(out, offset, &bytes)
         }
     }
 }

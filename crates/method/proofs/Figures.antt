@@ -6,21 +6,22 @@ use Rattle.quadrature.specs.Sums.{summed}
 use Rattle.quadrature.specs.Figures.{lowerStep, upperStep}
 use Rattle.quadrature.specs.Cuttings.{cutSum}
 use Rattle.roots.specs.Least.{least}
-use Rattle.balance.specs.Provided.{insulation, film, insulationBounds, filmBounds, provided}
-use Rattle.balance.specs.Required.{requirement, enclosing}
-use Rattle.balance.specs.Verdict.{firstNotInsufficient}
+use Rattle.requirement.specs.Required.{requirement, enclosing}
+use Rattle.provision.specs.Provided.{insulation, film, insulationBounds, filmBounds, provided}
+use Rattle.verdict.specs.Verdict.{firstNotInsufficient}
 use Rattle.refusals.specs.Response.{respond}
 use Rattle.big_endian.specs.Bytes.{bigEndian, bytesOf}
 use Rattle.sheet.specs.Sheet.{decoded}
-use Rattle.sheet.specs.Ranges.{anyOutside}
+use Rattle.sheet.specs.Fields.{firstFault}
 use Rattle.limits.specs.Limits.{neighbours, lossLimit}
-use Rattle.sheet.specs.Answer.{encoded, lossCheck, surfaceCheck, surfaceBound, answerOf}
-use Rattle.sheet.proofs.Examples.{low, high}
+use Rattle.answer.specs.Answer.{encoded}
+use Rattle.sheet.specs.Answer.{lossCheck, surfaceCheck, surfaceBound, answerOf}
+use Rattle.worked.proofs.Examples.{low, high}
 use Rattle.book.specs.Refusals.{sameBytes}
 use Rattle.method.specs.Method.{Cylinder, Hotter, Between, FlatWall, BetweenRows, Entry, Method}
 
 the-cylinder : Cylinder
-unfolding summed lowerStep upperStep least insulation film insulationBounds filmBounds provided requirement enclosing firstNotInsufficient bigEndian bytesOf decoded neighbours lossLimit lossCheck surfaceCheck surfaceBound encoded answerOf anyOutside respond
+unfolding summed lowerStep upperStep least insulation film insulationBounds filmBounds provided requirement enclosing firstNotInsufficient bigEndian bytesOf decoded neighbours lossLimit lossCheck surfaceCheck surfaceBound encoded answerOf firstFault respond
 the-cylinder =
     record {
       signed = refl;
@@ -47,7 +48,7 @@ the-cylinder =
     }
 
 the-same-hotter : Hotter
-unfolding summed lowerStep upperStep least insulation film insulationBounds filmBounds provided requirement enclosing firstNotInsufficient bigEndian bytesOf decoded neighbours lossLimit flatMap lossCheck surfaceCheck surfaceBound encoded answerOf anyOutside respond
+unfolding summed lowerStep upperStep least insulation film insulationBounds filmBounds provided requirement enclosing firstNotInsufficient bigEndian bytesOf decoded neighbours lossLimit flatMap lossCheck surfaceCheck surfaceBound encoded answerOf firstFault respond
 the-same-hotter =
     record {
       required = refl;
@@ -76,7 +77,7 @@ between-millimetres =
     }
 
 the-flat-wall : FlatWall
-unfolding summed cutSum lowerStep upperStep least insulation film insulationBounds filmBounds provided requirement enclosing firstNotInsufficient bigEndian bytesOf decoded neighbours lossLimit lossCheck surfaceCheck surfaceBound encoded answerOf anyOutside respond
+unfolding summed cutSum lowerStep upperStep least insulation film insulationBounds filmBounds provided requirement enclosing firstNotInsufficient bigEndian bytesOf decoded neighbours lossLimit lossCheck surfaceCheck surfaceBound encoded answerOf firstFault respond
 the-flat-wall =
     record {
       at-0 = refl;
@@ -92,14 +93,14 @@ the-flat-wall =
     }
 
 between-rows : BetweenRows
-unfolding summed lowerStep upperStep least insulation film insulationBounds filmBounds provided requirement enclosing firstNotInsufficient bigEndian bytesOf decoded neighbours lossLimit flatMap lossCheck surfaceCheck surfaceBound encoded answerOf anyOutside respond
+unfolding summed lowerStep upperStep least insulation film insulationBounds filmBounds provided requirement enclosing firstNotInsufficient bigEndian bytesOf decoded neighbours lossLimit flatMap lossCheck surfaceCheck surfaceBound encoded answerOf firstFault respond
 between-rows =
     record {
       required = refl;
       at-30 = refl;
       at-40 = refl;
       places = (refl, refl, refl);
-      rows = (refl, refl);
+      rows = (refl, refl, refl, refl);
       line = (refl, refl);
       limit = (refl, refl);
       loss-required = refl;
@@ -110,8 +111,8 @@ between-rows =
     }
 
 an-entry : Entry
-unfolding summed lowerStep upperStep least insulation film insulationBounds filmBounds provided requirement enclosing firstNotInsufficient bigEndian bytesOf decoded neighbours lossLimit lossCheck surfaceCheck surfaceBound encoded answerOf anyOutside respond sameBytes
-an-entry = record { size = refl; places = (refl, refl, refl); sizes = (refl, refl); read = refl }
+unfolding summed lowerStep upperStep least insulation film insulationBounds filmBounds provided requirement enclosing firstNotInsufficient bigEndian bytesOf decoded neighbours lossLimit lossCheck surfaceCheck surfaceBound encoded answerOf firstFault respond sameBytes
+an-entry = record { size = refl; offsets = (refl, refl, refl); sizes = (refl, refl); read = refl }
 
 pub method : Method
 method =

@@ -4,7 +4,7 @@ use Rattle.refusals.specs.Numbers.{numberOf}
 use Rattle.refusals.specs.Response.{Response, refused, complete}
 use Rattle.outcome.specs.declared.work.Outcome.{Outcome}
 use Rattle.outcome.specs.declared.work.Outcome.the-variants.{Refused, Answered}
-use Rattle.sheet.specs.Answer.{encoded}
+use Rattle.answer.specs.Answer.{encoded}
 
 abbrev pub response : Outcome → Response
 response (Refused why) = refused (numberOf why)

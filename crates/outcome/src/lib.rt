@@ -1,6 +1,4 @@
 // The outcome of a sheet: its refusal or its answer.
-mod checks;
-mod requirement;
 mod work;
 
 pub use work::Outcome;

@@ -1,28 +1,31 @@
 // The call that answers a sheet.
 ghost use mathlib.Core.Path.{_≡_};
+ghost use mathlib.Core.List.{_++_};
 ghost use Prim.Native.Nat.{_<_};
-ghost use Rattle.quadrature.specs.Ladder.{rungs, thicknessAt};
+ghost use Rattle.lengths.specs.Ladder.{rungs, thicknessAt};
 ghost use Rattle.refusals.specs.Response.{respond};
-ghost use Rattle.balance.specs.Provided.{provided as Provided·provided};
+ghost use Rattle.provision.specs.Provided.{provided as Provided·provided};
 ghost use Rattle.sheet.specs.Sheet.{goalOf};
 ghost use Rattle.sheet.specs.Search.{requiredOf, chosen};
-ghost use Rattle.sheet.specs.Answer.{encoded, answerOf};
-ghost use Rattle.sheet.specs.Refusals.{ladderCases, responseTo};
+ghost use Rattle.answer.specs.Answer.{encoded};
+ghost use Rattle.sheet.specs.Answer.{answerOf};
+ghost use Rattle.sheet.specs.Refusals.{valueCases, ladderCases, responseTo};
 ghost use Rattle.outcome.specs.Outcome.{response};
 ghost use Rattle.sheet.specs.Admitted.{Admitted};
-use crate::checks::loss_check;
-use crate::checks::surface_bound;
-use crate::checks::surface_check;
-use crate::requirement::goal_of;
-use crate::requirement::required_by;
-use balance::Choice;
-use balance::Provision;
-use balance::judge;
+use answer::Answer;
+use checks::goal_of;
+use checks::loss_check;
+use checks::required_by;
+use checks::surface_bound;
+use checks::surface_check;
 use fractions::Bounds;
-use quadrature::Ladder;
+use lengths::Ladder;
+use provision::Provision;
 use refusals::Refusal;
-use sheet::Answer;
 use sheet::Sheet;
+use verdict::Choice;
+use verdict::judge;
+use verdict::search;
 
 pub enum Outcome {
     Refused(Refusal),
@@ -36,26 +39,26 @@ pub fn work_out(bytes: &[u8]) -> Outcome
     if bytes.len() != 24 {
         return Outcome::Refused(Refusal::SheetLength);
     }
-    let sheet = Sheet::decode(bytes);
-    // The tests, in the order of the refusals.
-    let unknown = sheet.code_unknown();
-    let outside = sheet.out_of_range();
-    let unused = sheet.not_zero();
-    let not_warmer = sheet.temperature <= sheet.ambient;
-    let invalid = sheet.invalid_aim();
-    if unknown {
+    work_out_sheet(Sheet::decode(bytes))
+}
+
+// Works out a sheet by its fields: the tests, in the order of the refusals.
+fn work_out_sheet(sheet: Sheet) -> Outcome
+    ensures { λ r. ⌜ response r ≡ respond (valueCases sheet ++ ladderCases sheet) (encoded (answerOf sheet (chosen sheet))) ⌝ }
+{
+    if sheet.code_fault().found() {
         return Outcome::Refused(Refusal::UnknownCode);
     }
-    if outside {
+    if sheet.range_fault().found() {
         return Outcome::Refused(Refusal::OutOfRange);
     }
-    if unused {
+    if sheet.zero_fault().found() {
         return Outcome::Refused(Refusal::NotZero);
     }
-    if not_warmer {
+    if sheet.temperature.0 <= sheet.ambient.0 {
         return Outcome::Refused(Refusal::NotWarmer);
     }
-    if invalid {
+    if sheet.invalid_aim() {
         return Outcome::Refused(Refusal::InvalidAim);
     }
     search_ladder(sheet)
@@ -67,13 +70,13 @@ fn search_ladder(sheet: Sheet) -> Outcome
     ensures { λ o. ⌜ response o ≡ respond (ladderCases sheet) (encoded (answerOf sheet (chosen sheet))) ⌝ }
 {
     let required = required_by(sheet, goal_of(sheet));
-    match Provision::of(sheet.line).search(required) {
+    match search(Provision::of(sheet.line), required) {
         Choice::AllInsufficient => Outcome::Refused(Refusal::NoneSufficient),
         Choice::Rung(r, provided) => judge_rung(sheet, required, r, provided),
     }
 }
 
-// Judges the first rung that is not insufficient: its index is r, and it provides `provided`.
+// Judges the first rung that does not miss: its index is r, and its have `provided`.
 fn judge_rung(sheet: Sheet, required: Bounds, r: u64, provided: Bounds) -> Outcome
     requires { ⌜ Admitted sheet × (required ≡ requiredOf sheet (goalOf sheet)) ⌝ }
     requires { ⌜ (r ≡ chosen sheet) × (r < rungs) × (provided ≡ Provided·provided (sheet .line) (thicknessAt r)) ⌝ }
@@ -85,7 +88,7 @@ fn judge_rung(sheet: Sheet, required: Bounds, r: u64, provided: Bounds) -> Outco
     Outcome::Answered(answer_of(sheet, r, provided))
 }
 
-// The answer with the rung of index r, which provides `provided`.
+// The answer with the rung of index r, whose have is `provided`.
 fn answer_of(sheet: Sheet, r: u64, provided: Bounds) -> Answer
     requires { ⌜ Admitted sheet × (provided ≡ Provided·provided (sheet .line) (thicknessAt r)) ⌝ }
     ensures { λ a. ⌜ a ≡ answerOf sheet r ⌝ }

@@ -7,6 +7,7 @@ use native.Mathlib.Omega.{arith}
 use Rattle.fractions.specs.Fraction.{Fraction, _over_, _≼_, _≺_}
 use Rattle.fractions.proofs.Order.{≼-trans}
 use Rattle.fractions.proofs.Rounding.{floor-below, ceiling-above}
+use Rattle.lengths.specs.declared.units.Diameter.{Diameter}
 use Rattle.quadrature.specs.Sums.{total, fractionSum}
 use Rattle.quadrature.specs.Figures.{tera, lowerStep, upperStep, lowerLog, upperLog}
 use Rattle.quadrature.specs.Cuttings.{midpoint, trapezoid, cutSum, lowerSum, upperSum}
@@ -59,50 +60,50 @@ enclosed-run m a n hm ha =
     }
 
 -- From D to E: the figures enclose both sums of every cutting.
-pub record Enclosed (m D E : ℕ) : Type 0 where
+pub record Enclosed (m : ℕ) (D E : Diameter) : Type 0 where
   pub lower : lowerLog D E over tera ≼ lowerSum m D E
   pub sums : lowerSum m D E ≼ upperSum m D E
   pub upper : upperSum m D E ≼ upperLog D E over tera
 
-pub enclosed : (m D E : ℕ) → 1 ≤ m → 1 ≤ D → Enclosed m D E
+pub enclosed : (m : ℕ) (D E : Diameter) → 1 ≤ m → 1 ≤ D .0 → Enclosed m D E
 unfolding cutSum
 enclosed m D E hm hD =
-    let run = enclosed-run m D (E - D) hm hD in
+    let run = enclosed-run m (D .0) (E .0 - D .0) hm hD in
     record { lower = rw (← mul-sub) (run .lower); sums = rw (← mul-sub) (run .sums); upper = rw (← mul-sub) (run .upper) }
 
 -- No denominator of a cutting's sums is 0.
-pub lower-den : (m D E : ℕ) → 0 < lowerSum m D E .den
+pub lower-den : (m : ℕ) (D E : Diameter) → 0 < lowerSum m D E .den
 unfolding cutSum
-lower-den m D E = midpoints-den (m * D) (m * E - m * D)
+lower-den m D E = midpoints-den (m * D .0) (m * E .0 - m * D .0)
 
-pub upper-den : (m D E : ℕ) → 1 ≤ m → 1 ≤ D → 0 < upperSum m D E .den
+pub upper-den : (m : ℕ) (D E : Diameter) → 1 ≤ m → 1 ≤ D .0 → 0 < upperSum m D E .den
 unfolding cutSum
-upper-den m D E hm hD = trapezoids-den (m * D) (m * E - m * D) (mul-pos hm hD)
+upper-den m D E hm hD = trapezoids-den (m * D .0) (m * E .0 - m * D .0) (mul-pos hm hD)
 
 -- Each sum grows with E: it never falls, and beyond D it rises.
-pub sum-mono : (strip : ℕ → Fraction) (m D : ℕ) {E F : ℕ} → E ≤ F → cutSum strip m D E ≼ cutSum strip m D F
+pub sum-mono : (strip : ℕ → Fraction) (m : ℕ) (D : Diameter) {E F : Diameter} → E .0 ≤ F .0 → cutSum strip m D E ≼ cutSum strip m D F
 unfolding cutSum
-sum-mono strip m D le = fraction-sum-grows strip (m * D) (omega (arith, mul-le-mul-left m le))
+sum-mono strip m D le = fraction-sum-grows strip (m * D .0) (omega (arith, mul-le-mul-left m le))
 
-sum-rises : (strip : ℕ → Fraction) (m D : ℕ) {E F : ℕ} → ((k : ℕ) → (0 < strip (m * D + k) .num) × (0 < strip (m * D + k) .den)) → 1 ≤ m → D ≤ E → E < F → cutSum strip m D E ≺ cutSum strip m D F
+sum-rises : (strip : ℕ → Fraction) (m : ℕ) (D : Diameter) {E F : Diameter} → ((k : ℕ) → (0 < strip (m * D .0 + k) .num) × (0 < strip (m * D .0 + k) .den)) → 1 ≤ m → D .0 ≤ E .0 → E .0 < F .0 → cutSum strip m D E ≺ cutSum strip m D F
 unfolding cutSum
-sum-rises strip m D some hm le lt = fraction-sum-rises strip (m * D) some (omega (arith, mul-le-mul-left m le, mul-le-mul-left m lt))
+sum-rises strip m D some hm le lt = fraction-sum-rises strip (m * D .0) some (omega (arith, mul-le-mul-left m le, mul-le-mul-left m lt))
 
-pub lower-rises : (m D : ℕ) {E F : ℕ} → 1 ≤ m → D ≤ E → E < F → lowerSum m D E ≺ lowerSum m D F
-lower-rises m D = sum-rises midpoint m D (midpoint-some (m * D))
+pub lower-rises : (m : ℕ) (D : Diameter) {E F : Diameter} → 1 ≤ m → D .0 ≤ E .0 → E .0 < F .0 → lowerSum m D E ≺ lowerSum m D F
+lower-rises m D = sum-rises midpoint m D (midpoint-some (m * D .0))
 
-pub upper-rises : (m D : ℕ) {E F : ℕ} → 1 ≤ m → 1 ≤ D → D ≤ E → E < F → upperSum m D E ≺ upperSum m D F
-upper-rises m D hm hD = sum-rises trapezoid m D (λ k. trapezoid-some (m * D) k (mul-pos hm hD)) hm
+pub upper-rises : (m : ℕ) (D : Diameter) {E F : Diameter} → 1 ≤ m → 1 ≤ D .0 → D .0 ≤ E .0 → E .0 < F .0 → upperSum m D E ≺ upperSum m D F
+upper-rises m D hm hD = sum-rises trapezoid m D (λ k. trapezoid-some (m * D .0) k (mul-pos hm hD)) hm
 
 -- A cutting by m k refines the cutting by k: each of its strips is cut in m.
-recut : (strip : ℕ → Fraction) (m k D E : ℕ) → cutSum strip (m * k) D E ≡ fractionSum strip (m * (k * D)) (m * (k * E - k * D))
+recut : (strip : ℕ → Fraction) (m k : ℕ) (D E : Diameter) → cutSum strip (m * k) D E ≡ fractionSum strip (m * (k * D .0)) (m * (k * E .0 - k * D .0))
 unfolding cutSum
-recut strip m k D E = rw (mul-assoc m k D, mul-assoc m k E, mul-sub m (k * E) (k * D))
+recut strip m k D E = rw (mul-assoc m k (D .0), mul-assoc m k (E .0), mul-sub m (k * E .0) (k * D .0))
 
-pub lower-refines : (m k D E : ℕ) → 1 ≤ m → lowerSum k D E ≼ lowerSum (m * k) D E
+pub lower-refines : (m k : ℕ) (D E : Diameter) → 1 ≤ m → lowerSum k D E ≼ lowerSum (m * k) D E
 unfolding cutSum
-lower-refines m k D E hm = rw (recut midpoint m k D E) (midpoints-cut m (k * D) (k * E - k * D) hm)
+lower-refines m k D E hm = rw (recut midpoint m k D E) (midpoints-cut m (k * D .0) (k * E .0 - k * D .0) hm)
 
-pub upper-refines : (m k D E : ℕ) → 1 ≤ m → 1 ≤ k → 1 ≤ D → upperSum (m * k) D E ≼ upperSum k D E
+pub upper-refines : (m k : ℕ) (D E : Diameter) → 1 ≤ m → 1 ≤ k → 1 ≤ D .0 → upperSum (m * k) D E ≼ upperSum k D E
 unfolding cutSum
-upper-refines m k D E hm hk hD = rw (recut trapezoid m k D E) (trapezoids-cut m (k * D) (k * E - k * D) hm (mul-pos hk hD))
+upper-refines m k D E hm hk hD = rw (recut trapezoid m k D E) (trapezoids-cut m (k * D .0) (k * E .0 - k * D .0) hm (mul-pos hk hD))

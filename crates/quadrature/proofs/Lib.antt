@@ -1,4 +1,3 @@
-pub mod Rungs
 pub mod Sums
 pub mod Strips
 pub mod Enclosure

@@ -3,6 +3,7 @@
 -- Assumes nothing.
 use Prim.Native.Nat.{ℕ, _+_, _-_, _*_}
 use Rattle.fractions.specs.Fraction.{Fraction, _over_}
+use Rattle.lengths.specs.declared.units.Diameter.{Diameter}
 use Rattle.quadrature.specs.Sums.{fractionSum}
 
 abbrev pub midpoint : ℕ → Fraction
@@ -12,12 +13,12 @@ abbrev pub trapezoid : ℕ → Fraction
 trapezoid j = (2 * j + 1) over (2 * j * (j + 1))
 
 -- the strips of the cutting m from D to E, added up
-unfoldable pub cutSum : (ℕ → Fraction) → ℕ → ℕ → ℕ → Fraction
-cutSum strip m D E = fractionSum strip (m * D) (m * E - m * D)
+unfoldable pub cutSum : (ℕ → Fraction) → ℕ → Diameter → Diameter → Fraction
+cutSum strip m D E = fractionSum strip (m * D .0) (m * E .0 - m * D .0)
 
 -- the under-sum and the over-sum
-abbrev pub lowerSum : ℕ → ℕ → ℕ → Fraction
+abbrev pub lowerSum : ℕ → Diameter → Diameter → Fraction
 lowerSum = cutSum midpoint
 
-abbrev pub upperSum : ℕ → ℕ → ℕ → Fraction
+abbrev pub upperSum : ℕ → Diameter → Diameter → Fraction
 upperSum = cutSum trapezoid

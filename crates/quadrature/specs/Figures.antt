@@ -4,6 +4,7 @@ use Prim.Native.Nat.{ℕ, _+_, _-_, _*_, _^_}
 use Rattle.fractions.specs.declared.Bounds.{Bounds}
 use Rattle.fractions.specs.Fraction.{_over_}
 use Rattle.fractions.specs.Rounding.{floor, ceiling}
+use Rattle.lengths.specs.declared.units.Diameter.{Diameter}
 use Rattle.quadrature.specs.Sums.{total}
 
 -- "units of 10⁻¹²"
@@ -22,11 +23,11 @@ abbrev pub stepBounds : ℕ → Bounds
 stepBounds i = record { lower = lowerStep i; upper = upperStep i }
 
 -- "The under-log or over-log from D to E is the sum of the steps for i = D to E − 1, zero when E = D."
-abbrev pub lowerLog : ℕ → ℕ → ℕ
-lowerLog D E = total lowerStep D (E - D)
+abbrev pub lowerLog : Diameter → Diameter → ℕ
+lowerLog D E = total lowerStep (D .0) (E .0 - D .0)
 
-abbrev pub upperLog : ℕ → ℕ → ℕ
-upperLog D E = total upperStep D (E - D)
+abbrev pub upperLog : Diameter → Diameter → ℕ
+upperLog D E = total upperStep (D .0) (E .0 - D .0)
 
-abbrev pub logBounds : ℕ → ℕ → Bounds
+abbrev pub logBounds : Diameter → Diameter → Bounds
 logBounds D E = record { lower = lowerLog D E; upper = upperLog D E }

@@ -1,5 +1,3 @@
-pub mod Ladder
-pub mod Units
 pub mod Sums
 pub mod Figures
 pub mod Cuttings

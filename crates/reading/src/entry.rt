@@ -4,22 +4,22 @@ ghost use Prim.Native.Nat.{_+_, _≤_};
 ghost use lib.ListN.{length};
 ghost use Rattle.overlay.specs.Overlay.{part};
 ghost use Rattle.sheet.specs.Refusals.{responseTo};
-ghost use Rattle.book.specs.Refusals.{sameBytes, gives};
+ghost use Rattle.book.specs.Refusals.{gives};
+use check::same;
 use outcome::Outcome;
 use outcome::work_out;
 
 // The bytes of a slot.
-pub(crate) fn slot(book: &[u8], at: usize, size: usize) -> &[u8]
-    requires { ⌜ at + size ≤ length (now book) ⌝ }
-    ensures { λ r. ⌜ now r ≡ part (now (book .entry)) at size ⌝ }
+pub(crate) fn slot(book: &[u8], offset: usize, size: usize) -> &[u8]
+    requires { ⌜ offset + size ≤ length (now book) ⌝ }
+    ensures { λ r. ⌜ (now r ≡ part (now (book .entry)) offset size) × (length (now r) ≡ size) ⌝ }
 {
-    let end = at + size;
-    &book[at..end]
+    let end = offset + size;
+    &book[offset..end]
 }
 
-// Whether the sheet is answered, and with these eight bytes.
+// Whether the sheet is answered, and with these bytes.
 pub(crate) fn is_answer(sheet: &[u8], filed: &[u8]) -> bool
-    requires { ⌜ length (now filed) ≡ 8 ⌝ }
     ensures { λ r. ⌜ r ≡ gives (responseTo (now (sheet .entry))) (now (filed .entry)) ⌝ }
 {
     match work_out(sheet) {
@@ -29,18 +29,4 @@ pub(crate) fn is_answer(sheet: &[u8], filed: &[u8]) -> bool
             same(&bytes, filed)
         }
     }
-}
-
-fn same(a: &[u8], b: &[u8]) -> bool
-    requires { ⌜ length (now a) ≡ length (now b) ⌝ }
-    ensures { λ r. ⌜ r ≡ sameBytes (now (a .entry)) (now (b .entry)) ⌝ }
-{
-    let mut i = 0;
-    while i < a.len() {
-        if a[i] != b[i] {
-            return false;
-        }
-        i += 1;
-    }
-    true
 }

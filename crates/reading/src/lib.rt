@@ -4,15 +4,12 @@ mod entry;
 ghost use mathlib.Core.Path.{_≡_};
 ghost use mathlib.Core.List.{_++_};
 ghost use lib.ListN.{length};
-ghost use Rattle.refusals.specs.Cases.{NoneHolds};
 ghost use Rattle.refusals.specs.Response.{after};
-ghost use Rattle.layout.specs.Layout.{standard};
-ghost use Rattle.book.specs.Book.{storedSheet, storedAnswer};
-ghost use Rattle.layout.specs.Sizes.{capacity, count};
-ghost use Rattle.layout.specs.Refusals.{bookCases};
-ghost use Rattle.book.specs.Refusals.{reading};
 ghost use Rattle.refusals.specs.Completion.{responseWith};
-ghost use Rattle.layout.specs.Usable.{Usable};
+ghost use Rattle.layout.specs.Layout.{standard};
+ghost use Rattle.layout.specs.SoundBook.{SoundBook};
+ghost use Rattle.book.specs.Book.{storedSheet, storedAnswer};
+ghost use Rattle.book.specs.Refusals.{reading};
 use crate::entry::is_answer;
 use crate::entry::slot;
 use layout::Examination;
@@ -43,8 +40,7 @@ fn read_in(
     sheet: &mut [u8],
     answer: &mut [u8],
 ) -> Completion
-    requires { ⌜ Usable layout × NoneHolds (bookCases layout (now book)) ⌝ }
-    requires { ⌜ (sizes .capacity ≡ capacity layout (now book)) × (sizes .count ≡ count layout (now book)) ⌝ }
+    requires { ⌜ SoundBook layout (now book) sizes ⌝ }
     requires { ⌜ (length (now sheet) ≡ layout .sheet) × (length (now answer) ≡ 8) ⌝ }
     ensures { λ r. ⌜ responseWith r (now (sheet .exit) ++ now (answer .exit)) ≡ reading layout (now (book .entry)) entry ⌝ }
     ensures { λ _. ⌜ now (sheet .exit) ≡ after (reading layout (now (book .entry)) entry) (storedSheet layout (now (book .entry)) entry) (now (sheet .entry)) ⌝ }
@@ -53,10 +49,10 @@ fn read_in(
     if sizes.count <= entry {
         return Completion::Refused(Refusal::NoSuchEntry);
     }
-    let sheet_at = layout.sheet_at(entry);
-    let answer_at = layout.answer_at(sizes.capacity, entry);
-    let stored_sheet = slot(book, sheet_at, layout.sheet);
-    let stored_answer = slot(book, answer_at, 8);
+    let sheet_offset = layout.sheet_offset(entry);
+    let answer_offset = layout.answer_offset(sizes.capacity, entry);
+    let stored_sheet = slot(book, sheet_offset, layout.sheet);
+    let stored_answer = slot(book, answer_offset, 8);
     if is_answer(stored_sheet, stored_answer) {
         bytes::copy(stored_sheet, sheet);
         bytes::copy(stored_answer, answer);

@@ -9,58 +9,46 @@ use Rattle.roots.specs.Root.{floorRoot, ceilingRoot}
 use Rattle.roots.proofs.Squares.{square-le}
 use Rattle.roots.proofs.Roots.{floor-root-is, ceiling-root-is}
 
--- Where a is (r² + s) d + t, with s too little for the next square and t too little for the next multiple, r is the lower root.
-module _ (a d r s t : ℕ) (pos : 0 < d) (e : a ≡ (r * r + s) * d + t) (short : s < 2 * r + 1) (rest : t < d) where
-  above : a < (r + 1) * (r + 1) * d
-  above = omega (arith, mul-le-mul-right d short)
+-- r is the root of a / d rounded down, and rounded up where nothing is left; else the next number is
+pub record Rounded (a d r left : ℕ) : Type 0 where
+  pub lower : r ≡ floorRoot (a over d)
+  pub exact : left ≡ 0 → r ≡ ceilingRoot (a over d)
+  pub next : 0 < left → r + 1 ≡ ceilingRoot (a over d)
 
-  pub lower-is : r ≡ floorRoot (a over d)
-  lower-is = floor-root-is (a over d) pos r (omega arith) above
+-- So it is where a is (r² + s) d + t, with s too little for the next square and t too little for the next multiple.
+rounded : (a d r s t : ℕ) → 0 < d → a ≡ (r * r + s) * d + t → s < 2 * r + 1 → t < d → Rounded a d r (s + t)
+rounded a d r s t pos e short rest =
+    let above : a < (r + 1) * (r + 1) * d = omega (arith, mul-le-mul-right d short) in
+    record {
+      lower = floor-root-is (a over d) pos r (omega arith) above;
+      exact = λ none.
+          let no-s : s ≡ 0 = omega arith in
+          let whole : a ≡ r * r * d = omega (arith, ap (λ x. x * d) no-s) in
+          ceiling-root-is (a over d) pos r (omega arith) (λ x lt. omega (arith, mul-le-mul-right d (mul-le-mul lt lt)));
+      next = λ some.
+          let below : r * r * d < a = omega (arith, le-mul-of-pos-right s pos) in
+          ceiling-root-is (a over d) pos (r + 1) (omega arith) (λ x lt. omega (arith, square-le {x = x} {y = r} d (omega arith)));
+    }
 
-  -- nothing is left: the root is whole
-  pub upper-exact : s + t ≡ 0 → r ≡ ceilingRoot (a over d)
-  upper-exact none =
-      let no-s : s ≡ 0 = omega arith in
-      let whole : a ≡ r * r * d = omega (arith, ap (λ x. x * d) no-s) in
-      ceiling-root-is (a over d) pos r (omega arith) (λ x lt. omega (arith, mul-le-mul-right d (mul-le-mul lt lt)))
-
-  -- something is left: the next number is the first that is not below the root
-  pub upper-next : 0 < s + t → r + 1 ≡ ceilingRoot (a over d)
-  upper-next some =
-      let below : r * r * d < a = omega (arith, le-mul-of-pos-right s pos) in
-      ceiling-root-is (a over d) pos (r + 1) (omega (arith, above)) (λ x lt. omega (arith, square-le {x = x} {y = r} d (omega arith)))
+-- what the square of k u lacks of k² n / d
+abbrev pub gap : ℕ → ℕ → ℕ → ℕ → ℕ
+gap k n d u = k * k * (n / d - u * u) + k * k * (n % d) / d
 
 -- k² n, from n = w d + m, w = u² + x, k² m = q d + t, and k² x + q = v (2 k u + v) + s
 whole : (k n d u v w m x q s t : ℕ) → w * d + m ≡ n → u * u + x ≡ w → q * d + t ≡ k * k * m → v * (2 * (k * u) + v) + s ≡ k * k * x + q → k * k * n ≡ ((k * u + v) * (k * u + v) + s) * d + t
 whole k n d u v w m x q s t e-n e-w e-m e-gap =
     omega (arith, ap (λ y. k * k * y) e-n, ap (λ y. k * k * y * d) e-w, ap (λ y. y * d) e-gap)
 
--- what the square of k u lacks of k² n / d
-abbrev pub gap : ℕ → ℕ → ℕ → ℕ → ℕ
-gap k n d u = k * k * (n / d - u * u) + k * k * (n % d) / d
-
--- what is left of it past v: 0 only where the root is whole
-abbrev pub left : ℕ → ℕ → ℕ → ℕ → ℕ → ℕ
-left k n d u v = gap k n d u - v * (2 * (k * u) + v) + k * k * (n % d) % d
-
-pub record BothParts (k n d u v : ℕ) : Type 0 where
-  pub lower : k * u + v ≡ floorRoot (k * k * n over d)
-  pub exact : left k n d u v ≡ 0 → k * u + v ≡ ceilingRoot (k * k * n over d)
-  pub next : 0 < left k n d u v → k * u + v + 1 ≡ ceilingRoot (k * k * n over d)
+-- both parts, and what is left past them
+abbrev pub BothParts : ℕ → ℕ → ℕ → ℕ → ℕ → Type 0
+BothParts k n d u v = Rounded (k * k * n) d (k * u + v) (gap k n d u - v * (2 * (k * u) + v) + k * k * (n % d) % d)
 
 pub both-parts : (k n d u v : ℕ) → 0 < d → u * u ≤ n / d → v * (2 * (k * u) + v) ≤ gap k n d u → gap k n d u < (v + 1) * (2 * (k * u) + (v + 1)) → BothParts k n d u v
 both-parts k n d u v pos low fits over-v =
     let s : ℕ = gap k n d u - v * (2 * (k * u) + v) in
     let t : ℕ = k * k * (n % d) % d in
-    let e : k * k * n ≡ ((k * u + v) * (k * u + v) + s) * d + t =
-    whole k n d u v (n / d) (n % d) (n / d - u * u) (k * k * (n % d) / d) s t (div-add-mod' n d) (add-sub-of-le low) (div-add-mod' (k * k * (n % d)) d) (add-sub-of-le fits) in
-    let short : s < 2 * (k * u + v) + 1 = omega arith in
-    let rest : t < d = mod-lt (k * k * (n % d)) pos in
-    record {
-      lower = lower-is (k * k * n) d (k * u + v) s t pos e short rest;
-      exact = upper-exact (k * k * n) d (k * u + v) s t pos e short rest;
-      next = upper-next (k * k * n) d (k * u + v) s t pos e short rest;
-    }
+    let e = whole k n d u v (n / d) (n % d) (n / d - u * u) (k * k * (n % d) / d) s t (div-add-mod' n d) (add-sub-of-le low) (div-add-mod' (k * k * (n % d)) d) (add-sub-of-le fits) in
+    rounded (k * k * n) d (k * u + v) s t pos e (omega arith) (mod-lt (k * k * (n % d)) pos)
 
 -- What is known of the first part, with the sizes that keep every step within 64 bits.
 pub record FirstPart (k n d u : ℕ) : Type 0 where

@@ -7,11 +7,13 @@ use Rattle.fractions.specs.declared.Bounds.{Bounds}
 use Rattle.fractions.specs.Fraction.{Fraction}
 use Rattle.roots.specs.Least.{largest, least}
 
--- the largest whole number whose square times the denominator is at most the numerator, which no larger number can pass
+-- the largest whole number whose square times the denominator is at most the numerator, which no number above the numerator can be, where
+-- the denominator is not 0
 unfoldable pub floorRoot : Fraction → ℕ
 floorRoot p = largest (λ r. leb (r * r * p .den) (p .num)) (p .num)
 
--- the least whole number whose square times the denominator is at least the numerator, which the numerator itself passes
+-- the least whole number whose square times the denominator is at least the numerator, as that of the numerator is, where the
+-- denominator is not 0
 unfoldable pub ceilingRoot : Fraction → ℕ
 ceilingRoot p = least (λ r. leb (p .num) (r * r * p .den)) (p .num)
 

@@ -1,33 +1,32 @@
--- What holds of a sheet for which the cases 11 to 16 fail: its service, its line, its temperatures and its goal are in range.
+-- What holds of a sheet for which the cases 12 to 16 fail: its service, its line, its temperatures and its goal are in range.
 -- Assumes nothing.
-use mathlib.Core.Path.{_≡_}
-use mathlib.Core.Bool.{Bool, true, false, cond, _&&_, and-eq-true-iff}
-use mathlib.Core.List.{List, []}
-use Prim.Native.Nat.{ℕ, _-_, _≤_, _<_}
+use mathlib.Core.Path.{_≡_, refl}
+use mathlib.Core.Bool.{false, _&&_, and-eq-true-iff}
+use mathlib.Core.List.{_++_}
+use Prim.Native.Nat.{_≤_, _<_}
 use native.Mathlib.Nat.{pos-of-ne-zero}
 use native.Mathlib.Omega.{arith}
-use lib.Dec.{eqb, ltb}
+use lib.Dec.{ltb}
 use borrow.Author.Tests.{eqb-false, leb-false, ltb-true, not-false}
-use Rattle.balance.specs.declared.goal.Goal.the-variants.{Economy, Loss, Surface}
-use Rattle.balance.specs.Ranges.{GoalInRange}
-use Rattle.sheet.specs.declared.fields.Sheet.{Sheet}
-use Rattle.sheet.specs.Sheet.{decoded, difference, surfaceAim}
-use Rattle.sheet.specs.Ranges.{anyOutside, economyFields}
 use Rattle.refusals.specs.Cases.{NoneHolds}
-use Rattle.sheet.specs.Refusals.{aimRefused, fieldCases}
+use Rattle.requirement.specs.Ranges.{GoalInRange}
+use Rattle.sheet.specs.declared.fields.GoalCode.{GoalCode}
+use Rattle.sheet.specs.declared.fields.GoalCode.the-variants.{ForEconomy, ForLoss, ForSurface}
+use Rattle.sheet.specs.declared.fields.Sheet.{Sheet}
+use Rattle.sheet.specs.Sheet.{usesEconomy, usesAim, difference, surfaceAim, goalWith}
+use Rattle.sheet.specs.Fields.{economyFields, aimFields, firstFault, isFault}
+use Rattle.sheet.specs.Refusals.{aimRefused, valueCases}
 use Rattle.sheet.specs.Admitted.{Admitted}
-use Rattle.sheet.proofs.Inside.{inside}
+use Rattle.sheet.proofs.FirstFault.{inside, behind}
 
 -- each goal's own range, from the fields that only it uses, and from case 16
 goal-in-range :
-    (s : Sheet) (economy loss : Bool) →
-    let goal = cond economy (Economy (s .economy)) (cond loss (Loss (s .aim)) (Surface (surfaceAim s - s .ambient))) in
-    anyOutside (cond economy (economyFields s) []) ≡ false → difference s ≤ 7_000 → aimRefused s goal ≡ false → GoalInRange goal
-goal-in-range s true loss fields near aim =
-    let heat = inside _ _ fields in
-    let hours = inside _ _ (heat .rest) in
-    let insulation = inside _ _ (hours .rest) in
-    let share = inside _ _ (insulation .rest) in
+    (s : Sheet) (g : GoalCode) → isFault (firstFault 13 (economyFields (usesEconomy g) s ++ aimFields (usesAim g) s)) ≡ false → difference s ≤ 7_000 → aimRefused s g ≡ false → GoalInRange (goalWith s g)
+goal-in-range s ForEconomy fields near aim =
+    let heat = inside 13 _ _ fields refl in
+    let hours = inside 13 _ _ (heat .rest) refl in
+    let insulation = inside 13 _ _ (hours .rest) refl in
+    let share = inside 13 _ _ (insulation .rest) refl in
     record {
       heat-to = heat .most;
       hours-to = hours .most;
@@ -36,26 +35,26 @@ goal-in-range s true loss fields near aim =
       share-from = share .least;
       share-to = share .most;
     }
-goal-in-range s false true fields near aim = pos-of-ne-zero (eqb-false _ _ aim)
-goal-in-range s false false fields near aim =
-    let above = ltb (s .ambient) (surfaceAim s) in
-    let below = ltb (surfaceAim s) (s .temperature) in
+goal-in-range s ForLoss fields near aim = pos-of-ne-zero (eqb-false _ _ aim)
+goal-in-range s ForSurface fields near aim =
+    let above = ltb (s .ambient .0) (surfaceAim s .0) in
+    let below = ltb (surfaceAim s .0) (s .temperature .0) in
     let both = and-eq-true-iff above below .0 (not-false (above && below) aim) in
-    omega (arith, ltb-true (s .ambient) (surfaceAim s) (both .0), ltb-true (surfaceAim s) (s .temperature) (both .1))
+    omega (arith, ltb-true (s .ambient .0) (surfaceAim s .0) (both .0), ltb-true (surfaceAim s .0) (s .temperature .0) (both .1))
 
-pub admitted : (bytes : List ℕ) → NoneHolds (fieldCases bytes) → Admitted (decoded bytes)
-unfolding NoneHolds decoded
-admitted bytes f =
-    let s = decoded bytes in
-    let goal = inside _ _ (f .1 .0) in
-    let service = inside _ _ (goal .rest) in
-    let diameter = inside _ _ (f .1 .1 .0) in
-    let temperature = inside _ _ (diameter .rest) in
-    let ambient = inside _ _ (temperature .rest) in
-    let conductivity = inside _ _ (ambient .rest) in
-    let coefficient = inside _ _ (conductivity .rest) in
-    let warmer : s .ambient < s .temperature = leb-false _ _ (f .1 .1 .1 .1 .0) in
-    let near : difference s ≤ 7_000 = omega arith in
+pub admitted : (s : Sheet) → NoneHolds (valueCases s) → Admitted s
+unfolding NoneHolds
+admitted s f =
+    let goal = inside 12 _ _ (f .0) refl in
+    let service = inside 12 _ _ (goal .rest) refl in
+    let no-code = behind 13 _ _ (behind 13 _ _ (f .1 .0) (λ e. omega arith)) (λ e. omega arith) in
+    let diameter = inside 13 _ _ no-code refl in
+    let temperature = inside 13 _ _ (diameter .rest) refl in
+    let ambient = inside 13 _ _ (temperature .rest) refl in
+    let conductivity = inside 13 _ _ (ambient .rest) refl in
+    let coefficient = inside 13 _ _ (conductivity .rest) refl in
+    let warmer : s .ambient .0 < s .temperature .0 = leb-false _ _ (f .1 .1 .1 .0) in
+    let near : difference s ≤ 7_000 = omega (arith, temperature .most, ambient .least) in
     record {
       service-from = service .least;
       service-to = service .most;
@@ -63,6 +62,7 @@ admitted bytes f =
       conductivity-from = conductivity .least;
       warmer = warmer;
       temperature-to = temperature .most;
+      ambient-to = ambient .most;
       difference-to = near;
-      goal = goal-in-range s (eqb (s .goal) 1) (eqb (s .goal) 2) (coefficient .rest) near (f .1 .1 .1 .1 .1 .0);
+      goal = goal-in-range s (s .goal) (coefficient .rest) near (f .1 .1 .1 .1 .0);
     }

@@ -6,9 +6,9 @@ use mathlib.Core.List.{List}
 use Prim.Native.Nat.{ℕ, _<_}
 use native.Mathlib.Omega.{arith}
 use borrow.Author.Tests.{eq-eqb, ne-eqb}
-use Rattle.quadrature.specs.Ladder.{rungs}
+use Rattle.lengths.specs.Ladder.{rungs}
 use Rattle.refusals.specs.Response.{refused, complete, respond}
-use Rattle.balance.specs.Verdict.{isUndecided}
+use Rattle.verdict.specs.Verdict.{isUndecided}
 use Rattle.sheet.specs.declared.fields.Sheet.{Sheet}
 use Rattle.sheet.specs.Search.{verdicts, chosen}
 use Rattle.sheet.specs.Refusals.{ladderCases}

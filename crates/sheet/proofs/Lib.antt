@@ -1,6 +1,3 @@
-pub mod Inside
+pub mod FirstFault
 pub mod Ladder
 pub mod Admitted
-pub mod Offsets
-pub mod Worked
-pub mod Examples

@@ -1,7 +1,6 @@
 pub mod Sheet
-pub mod Ranges
+pub mod Fields
 pub mod Search
 pub mod Answer
 pub mod Refusals
 pub mod Admitted
-pub mod Worked

@@ -5,43 +5,52 @@ use mathlib.Core.Bool.{Bool, false, not, _&&_}
 use mathlib.Core.List.{List, [], _∷_, _++_}
 use lib.Dec.{leb, ltb, eqb}
 use lib.ListN.{length}
-use Rattle.quadrature.specs.Ladder.{rungs}
+use Rattle.lengths.specs.Ladder.{rungs}
+use Rattle.refusals.specs.declared.Refusal.{Refusal}
 use Rattle.refusals.specs.declared.Refusal.the-variants.{SheetLength, UnknownCode, OutOfRange, NotZero, NotWarmer, InvalidAim, NoneSufficient, TooClose}
 use Rattle.refusals.specs.Numbers.{numberOf}
 use Rattle.refusals.specs.Cases.{Case, case}
 use Rattle.refusals.specs.Response.{Response, respond}
-use Rattle.balance.specs.declared.goal.Goal.{Goal}
-use Rattle.balance.specs.declared.goal.Goal.the-variants.{Economy, Loss, Surface}
-use Rattle.balance.specs.Verdict.{isUndecided}
+use Rattle.verdict.specs.Verdict.{isUndecided}
+use Rattle.sheet.specs.declared.fields.GoalCode.{GoalCode}
+use Rattle.sheet.specs.declared.fields.GoalCode.the-variants.{ForEconomy, ForLoss, ForSurface}
 use Rattle.sheet.specs.declared.fields.Sheet.{Sheet}
-use Rattle.sheet.specs.Sheet.{decoded, surfaceAim, goalOf}
-use Rattle.sheet.specs.Ranges.{anyOutside, codes, ranges, mustBeZero}
+use Rattle.sheet.specs.Sheet.{decoded, surfaceAim}
+use Rattle.sheet.specs.Fields.{fields, firstFault, isFault}
 use Rattle.sheet.specs.Search.{verdicts, chosen}
 use Rattle.sheet.specs.Answer.{answer}
 
 -- "goal 2 with aim 0; goal 3 unless ta < aim < t."
-abbrev pub aimRefused : Sheet → Goal → Bool
-aimRefused s (Economy e) = false
-aimRefused s (Loss aim) = eqb aim 0
-aimRefused s (Surface rise) = not (ltb (s .ambient) (surfaceAim s) && ltb (surfaceAim s) (s .temperature))
+abbrev pub aimRefused : Sheet → GoalCode → Bool
+aimRefused s ForEconomy = false
+aimRefused s ForLoss = eqb (s .aim) 0
+aimRefused s ForSurface = not (ltb (s .ambient .0) (surfaceAim s .0) && ltb (surfaceAim s .0) (s .temperature .0))
+
+-- a field of this refusal is outside its range
+abbrev pub faulty : Sheet → Refusal → Bool
+faulty s why = isFault (firstFault (numberOf why) (fields s))
+
+-- the cases of the fields' values
+abbrev pub valueCases : Sheet → List Case
+valueCases s =
+    -- "12: goal or service code unknown."
+    case (numberOf UnknownCode) (faulty s UnknownCode) ∷
+    -- "13: a field outside its range."
+    case (numberOf OutOfRange) (faulty s OutOfRange) ∷
+    -- "14: an unused field not zero, or goal 1 with an aim not zero."
+    case (numberOf NotZero) (faulty s NotZero) ∷
+    -- "15: t not above ta."
+    case (numberOf NotWarmer) (leb (s .temperature .0) (s .ambient .0)) ∷
+    -- "16: goal 2 with aim 0; goal 3 unless ta < aim < t."
+    case (numberOf InvalidAim) (aimRefused s (s .goal)) ∷
+    []
 
 -- the cases that need no rung
 abbrev pub fieldCases : List ℕ → List Case
 fieldCases bytes =
-    let s = decoded bytes in
     -- "11: length is not 24."
     case (numberOf SheetLength) (not (eqb (length bytes) 24)) ∷
-    -- "12: goal or service code unknown."
-    case (numberOf UnknownCode) (anyOutside (codes s)) ∷
-    -- "13: a field outside its range."
-    case (numberOf OutOfRange) (anyOutside (ranges s)) ∷
-    -- "14: an unused field not zero, or goal 1 with an aim not zero."
-    case (numberOf NotZero) (anyOutside (mustBeZero s)) ∷
-    -- "15: t not above ta."
-    case (numberOf NotWarmer) (leb (s .temperature) (s .ambient)) ∷
-    -- "16: goal 2 with aim 0; goal 3 unless ta < aim < t."
-    case (numberOf InvalidAim) (aimRefused s (goalOf s)) ∷
-    []
+    valueCases (decoded bytes)
 
 -- the cases that try the ladder
 abbrev pub ladderCases : Sheet → List Case

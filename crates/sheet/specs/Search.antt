@@ -2,10 +2,10 @@
 -- Assumes nothing.
 use Prim.Native.Nat.{ℕ}
 use Rattle.fractions.specs.declared.Bounds.{Bounds}
-use Rattle.balance.specs.declared.goal.Goal.{Goal}
-use Rattle.balance.specs.declared.verdict.Verdict.{Verdict}
-use Rattle.balance.specs.Required.{Requirement, requirement, enclosing}
-use Rattle.balance.specs.Verdict.{verdictOf, firstNotInsufficient}
+use Rattle.requirement.specs.declared.Goal.{Goal}
+use Rattle.requirement.specs.Required.{Requirement, requirement, enclosing}
+use Rattle.verdict.specs.declared.Verdict.{Verdict}
+use Rattle.verdict.specs.Verdict.{verdictOf, firstNotInsufficient}
 use Rattle.sheet.specs.declared.fields.Sheet.{Sheet}
 use Rattle.sheet.specs.Sheet.{difference, goalOf}
 

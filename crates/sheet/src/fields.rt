@@ -1,21 +1,65 @@
 // The fields of a sheet's 24 bytes.
 ghost use mathlib.Core.Path.{_≡_};
 ghost use lib.ListN.{length};
-ghost use Rattle.sheet.specs.Sheet.{decoded};
-use balance::EconomyTerms;
-use balance::Line;
-use big_endian::signed;
+ghost use Rattle.sheet.specs.Sheet.{goalCode, usesEconomy, usesAim, decoded};
 use big_endian::unsigned;
-use quadrature::Diameter;
+use lengths::Diameter;
+use line::Line;
+use requirement::EconomyTerms;
+use temperatures::Temperature;
 
-// The codes of goal and service, the insulated line, the temperatures t of the pipe and ta of the air, counted in
-// 0.1 °C from −3,276.8 °C, the economy terms, and the aim as it is written.
+// What a goal's code says: 1 economy, 2 loss, and every other surface.
+pub enum GoalCode {
+    ForEconomy,
+    ForLoss,
+    ForSurface,
+}
+
+impl GoalCode {
+    pub(crate) fn of(code: u64) -> GoalCode
+        ensures { λ r. ⌜ r ≡ goalCode code ⌝ }
+    {
+        if code == 1 {
+            return GoalCode::ForEconomy;
+        }
+        if code == 2 {
+            return GoalCode::ForLoss;
+        }
+        GoalCode::ForSurface
+    }
+
+    // Does the goal use the prices, the hours and the yearly share?
+    pub(crate) fn uses_economy(self) -> bool
+        ensures { λ r. ⌜ r ≡ usesEconomy self ⌝ }
+    {
+        match self {
+            Self::ForEconomy => true,
+            Self::ForLoss => false,
+            Self::ForSurface => false,
+        }
+    }
+
+    // Does it use the aim?
+    pub(crate) fn uses_aim(self) -> bool
+        ensures { λ r. ⌜ r ≡ usesAim self ⌝ }
+    {
+        match self {
+            Self::ForEconomy => false,
+            Self::ForLoss => true,
+            Self::ForSurface => true,
+        }
+    }
+}
+
+// The goal's code as it is written and as it is read, the service, the insulated line, the temperatures t of the pipe and ta of the air, the
+// economy terms, and the aim as it is written.
 pub struct Sheet {
-    pub goal: u64,
+    pub code: u64,
+    pub goal: GoalCode,
     pub service: u64,
     pub line: Line,
-    pub temperature: u64,
-    pub ambient: u64,
+    pub temperature: Temperature,
+    pub ambient: Temperature,
     pub economy: EconomyTerms,
     pub aim: u64,
 }
@@ -25,16 +69,18 @@ impl Sheet {
         requires { ⌜ length (now bytes) ≡ 24 ⌝ }
         ensures { λ r. ⌜ r ≡ decoded (now (bytes .entry)) ⌝ }
     {
+        let code = bytes[0] as u64;
         Sheet {
-            goal: bytes[0] as u64,
+            code,
+            goal: GoalCode::of(code),
             service: bytes[1] as u64,
             line: Line {
                 diameter: Diameter(unsigned(bytes, 4)),
                 conductivity: unsigned(bytes, 10),
                 coefficient: unsigned(bytes, 12),
             },
-            temperature: signed(bytes, 6),
-            ambient: signed(bytes, 8),
+            temperature: Temperature::decode(unsigned(bytes, 6)),
+            ambient: Temperature::decode(unsigned(bytes, 8)),
             economy: EconomyTerms {
                 heat: unsigned(bytes, 14),
                 hours: unsigned(bytes, 16),

@@ -1,8 +1,7 @@
-// The meaning of a sheet, and the parts of its answer.
-mod encoding;
+// The meaning of a sheet: its fields, and what is wrong with them.
+mod faults;
 mod fields;
-mod ranges;
 
-pub use encoding::Answer;
-pub use encoding::LossCheck;
+pub use faults::Fault;
+pub use fields::GoalCode;
 pub use fields::Sheet;

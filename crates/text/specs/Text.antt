@@ -22,5 +22,10 @@ unfoldable pub decimal : ℕ → List ℕ
 decimal n = decimalUpTo n n
 
 -- a number and the byte after it
-abbrev pub numberAnd : ℕ → ℕ → List ℕ
-numberAnd n after = decimal n ++ (after ∷ [])
+abbrev pub decimalAnd : ℕ → ℕ → List ℕ
+decimalAnd n after = decimal n ++ (after ∷ [])
+
+-- the first n texts, one after the other
+unfoldable pub concatenated : (ℕ → List ℕ) → ℕ → List ℕ
+concatenated text zero = []
+concatenated text (suc n) = concatenated text n ++ text n

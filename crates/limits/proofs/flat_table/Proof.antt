@@ -5,9 +5,6 @@ use mathlib.Core.List.{flatMap}
 use Rattle.limits.proofs.flat_table.Statement.{statement}
 use Rattle.limits.proofs.flat_table.Tie as tie
 
-returns : tie.Need-returns
-unfolding flatMap
-returns c = refl
-
 pub flat-table-spec : {M : Type 1} → statement M
-flat-table-spec = tie.close (tie.spec returns)
+unfolding flatMap
+flat-table-spec = tie.close (tie.spec (λ c. refl))

@@ -1,66 +1,53 @@
--- `loss_limit` meets its contract.
+-- `loss_limit` meets its contract: division finds the row, and the flat list has its limit at the place.
 -- Assumes nothing.
-use mathlib.Core.Path.{sym}
+use mathlib.Core.Path.{_≡_, sym}
 use mathlib.Core.Bool.{or-true}
-use Prim.Native.Nat.{_+_, _-_, _%_}
+use Prim.Native.Nat.{ℕ, suc, _+_, _-_, _*_, _/_, _%_, _<_}
 use native.Mathlib.Numerals.{add-one}
 use native.Mathlib.Omega.{arith}
-use borrow.Author.Tests.{le-leb, lt-leb, eq-eqb, ne-eqb}
-use Rattle.big_endian.specs.Bytes.{zeroDegrees}
-use Rattle.limits.proofs.Rows.{limit-from, none-below}
+use lib.ListN.{getD}
 use borrow.Author.Needs.{needs}
+use borrow.Author.Tests.{le-leb, lt-leb, eq-eqb, ne-eqb}
+use Rattle.temperatures.specs.Temperature.{zeroDegrees}
+use Rattle.limits.specs.Limits.{limitOf, lossLimit}
+use Rattle.limits.specs.FlatTable.{flatTable, place}
+use Rattle.limits.proofs.Rows.{nth, row-present, limitAt, limit-at, none-below}
+use Rattle.limits.proofs.FlatTable.{placement}
 use Rattle.limits.proofs.loss_limit.Statement.{statement}
 use Rattle.limits.proofs.loss_limit.Tie as tie
 
-add-first : tie.Need-add-first
-add-first c = search needs
+module _ (c : tie.After-printed) where
+  abbrev start : tie.Start
+  start = c .before .before .before .before
 
-returns : tie.Need-returns
-returns c = sym (none-below _ (c .before .args .temperature) (omega (arith, c .if1 .taken)))
+  abbrev service : ℕ
+  service = start .args .service
 
-printed-requires : tie.Need-printed-requires
-printed-requires c κs = search needs
+  abbrev past : ℕ
+  past = start .args .temperature .0 - (zeroDegrees + 500)
 
-mul-low : tie.Need-mul-low
-mul-low c = search needs
+  limit : lossLimit service (start .args .temperature) ≡ limitAt service (past / 500) (past % 500)
+  limit = limit-at service (start .args .temperature) (past / 500) (past % 500) (omega arith)
 
-returns-2 : tie.Need-returns-2
-returns-2 c =
-    let start = c .before .before .before in
-    let rows = le-leb (start .args .service) 2 (omega (arith, c .if2 .taken)) in
-    rw (limit-from _ (start .args .temperature) (omega (arith, c .before .before .if1 .left)) (start .pre .2), rows, c .before .printed .ensures .0)
+  placed : (n : ℕ) → n < 13 → limitOf service (nth n) ≡ 10 * getD flatTable (place n service) 0
+  placed n lt = rw (placement .holds n service (nth n) (row-present n lt) (start .pre .0) (start .pre .1))
 
-returns-3 : tie.Need-returns-3
-returns-3 c =
-    let start = c .before .before .before .before in
-    let t = start .args .temperature in
-    let at-row = eq-eqb ((t - (zeroDegrees + 500)) % 500) 0 (omega (arith, c .if3 .taken)) in
-    rw (limit-from _ t (omega (arith, c .before .before .before .if1 .left)) (start .pre .2), at-row, or-true, c .before .before .printed .ensures .0)
-
-add-printed : tie.Need-add-printed
-add-printed c = search needs
-
-printed-requires-2 : tie.Need-printed-requires-2
-printed-requires-2 c κs = search needs
-
-mul-interpolate : tie.Need-mul-interpolate
-mul-interpolate c = search needs
-
-interpolate-requires : tie.Need-interpolate-requires
-interpolate-requires c κs = search needs
+  low : limitOf service (nth (past / 500)) ≡ 10 * c .printed .result
+  low = cc (placed (past / 500) (omega arith), c .printed .ensures .0)
 
 returns-4 : tie.Need-returns-4
 returns-4 c =
-    let tests = c .before .before in
-    let first = tests .before .before in
-    let start = first .before .before in
-    let a = start .args in
-    let limit = limit-from (a .service) (a .temperature) (omega (arith, first .before .if1 .left)) (start .pre .2) in
-    let line = lt-leb (a .service) 2 (omega (arith, tests .before .if2 .left)) in
-    let beyond = ne-eqb ((a .temperature - (zeroDegrees + 500)) % 500) 0 (λ e. omega (arith, tests .if3 .left)) in
-    rw (limit, line, beyond, c .interpolate .ensures, first .printed .ensures .0, c .before .printed2 .ensures .0, add-one)
+    let first = c .before .before .before .before in
+    let line = lt-leb (service first) 2 (c .before .before .before .if2 .left) in
+    let beyond = ne-eqb (past first % 500) 0 (c .before .before .if3 .left) in
+    rw (limit first, line, beyond, c .interpolate .ensures, low first, c .before .printed2 .ensures .0, placed first (suc (past first / 500)) (omega arith), add-one)
 
 pub loss-limit-spec : {M : Type 1} → statement M
 loss-limit-spec =
     tie.close
-    (tie.spec add-first returns printed-requires mul-low returns-2 returns-3 add-printed printed-requires-2 mul-interpolate interpolate-requires returns-4)
+    (tie.spec
+    (λ c. sym (none-below _ (c .before .before .args .temperature) (c .if1 .taken)))
+    (λ c. search needs) (λ c κs. search needs) (λ c. search needs)
+    (λ c. rw (limit (c .before), le-leb (service (c .before)) 2 (c .if2 .taken), low (c .before)))
+    (λ c. rw (limit (c .before .before), eq-eqb (past (c .before .before) % 500) 0 (c .if3 .taken), or-true, low (c .before .before)))
+    (λ c. search needs) (λ c κs. search needs) (λ c. search needs) (λ c κs. search needs) returns-4)

@@ -7,9 +7,6 @@ use Rattle.logarithm.proofs.Steps.{Difference, difference}
 use Rattle.logarithm.proofs.log_beyond.Statement.{statement}
 use Rattle.logarithm.proofs.log_beyond.Tie as tie
 
-log-from-10mm-requires : tie.Need-log-from-10mm-requires
-log-from-10mm-requires c κs = search needs
-
 -- each side, after the call
 lower-side : (c : tie.After-log-from-10mm) → Difference lowerStep (c .before .args .d .0) (c .before .args .e .0) (c .before .args .inner .lower) (c .log-from-10mm .result .lower)
 lower-side c =
@@ -33,4 +30,4 @@ returns c =
     both-of (lower-side outer .rest) (upper-side outer .rest)
 
 pub log-beyond-spec : {M : Type 1} → statement M
-log-beyond-spec = tie.close (tie.spec log-from-10mm-requires sub-t5 sub-t6 returns)
+log-beyond-spec = tie.close (tie.spec (λ c κs. search needs) sub-t5 sub-t6 returns)

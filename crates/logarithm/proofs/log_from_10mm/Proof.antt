@@ -1,10 +1,11 @@
 -- `logarithm::log_from_10mm` meets its contract. The loop's invariant: both sums are the logarithms to i. The measure is what is left to the end, nine steps at the most.
 -- Assumes nothing.
 use mathlib.Core.Path.{_≡_, ap, _∙_}
-use Prim.Native.Nat.{_+_, _-_, _≤_}
+use Prim.Native.Nat.{ℕ, _+_, _-_, _≤_}
 use native.Mathlib.Omega.{arith}
 use borrow.Author.Needs.{needs}
 use Rattle.fractions.proofs.Sides.{lower-of, upper-of, both-of}
+use Rattle.lengths.specs.Units.{tenths}
 use Rattle.quadrature.specs.Figures.{lowerStep, upperStep, logBounds}
 use Rattle.logarithm.proofs.Steps.{Next, next, lower-small, upper-small}
 use Rattle.logarithm.proofs.log_from_10mm.Statement.{statement}
@@ -12,30 +13,15 @@ use Rattle.logarithm.proofs.log_from_10mm.Tie as tie
 
 abbrev Inv-loop : tie.InvT-loop
 Inv-loop end k lower₀ upper₀ i₀ lower upper i =
-    (100 ≤ i) × (i ≤ end) × (end ≤ 16000) × (end ≤ i + 9) × (lower ≡ logBounds 100 i .lower) × (upper ≡ logBounds 100 i .upper)
+    (100 ≤ i) × (i ≤ end) × (end ≤ 16000) × (end ≤ i + 9) × (lower ≡ logBounds (tenths 100) (tenths i) .lower) × (upper ≡ logBounds (tenths 100) (tenths i) .upper)
 
 abbrev μ-loop : tie.MeasureT-loop
 μ-loop end k lower₀ upper₀ i₀ lower upper i = end - i
-
-sub-k : tie.Need-sub-k Inv-loop μ-loop
-sub-k c = search needs
-
-entry-requires : tie.Need-entry-requires Inv-loop μ-loop
-entry-requires c κs = search needs
-
-mul-i : tie.Need-mul-i Inv-loop μ-loop
-mul-i c = search needs
-
-add-i : tie.Need-add-i Inv-loop μ-loop
-add-i c = search needs
 
 loop-holds : tie.Need-loop-holds Inv-loop μ-loop
 loop-holds c =
     let start = c .entry .ensures in
     (search needs, search needs, search needs, search needs, lower-of start, upper-of start)
-
-step-requires : tie.Need-step-requires Inv-loop μ-loop
-step-requires c κs = search needs
 
 -- each side, after the step
 lower-next : (c : tie.After-step Inv-loop μ-loop) → Next lowerStep 100 (c .before .before .loop .i) (c .before .before .loop .lower) (c .step .result .lower)
@@ -54,12 +40,6 @@ add-lower c = omega (arith, lower-next (c .before), upper-next (c .before))
 add-upper : tie.Need-add-upper Inv-loop μ-loop
 add-upper c = omega (arith, lower-next (c .before .before), upper-next (c .before .before))
 
-add-i-2 : tie.Need-add-i-2 Inv-loop μ-loop
-add-i-2 c = search needs
-
-loop-less : tie.Need-loop-less Inv-loop μ-loop
-loop-less c = search needs
-
 loop-again : tie.Need-loop-again Inv-loop μ-loop
 loop-again c =
     let step = c .before .before in
@@ -69,7 +49,7 @@ returns : tie.Need-returns Inv-loop μ-loop
 returns c =
     let loop = c .before .loop in
     let last : loop .i ≡ c .before .before .before .args .e .0 = omega arith in
-    both-of (loop .inv .4) (loop .inv .5) ∙ ap (logBounds 100) last
+    both-of (loop .inv .4) (loop .inv .5) ∙ ap (λ (i : ℕ). logBounds (tenths 100) (tenths i)) last
 
 pub log-from-10mm-spec : {M : Type 1} → statement M
 log-from-10mm-spec =
@@ -77,15 +57,15 @@ log-from-10mm-spec =
     (tie.spec
     Inv-loop
     μ-loop
-    sub-k
-    entry-requires
-    mul-i
-    add-i
+    (λ c. search needs)
+    (λ c κs. search needs)
+    (λ c. search needs)
+    (λ c. search needs)
     loop-holds
-    step-requires
+    (λ c κs. search needs)
     add-lower
     add-upper
-    add-i-2
-    loop-less
+    (λ c. search needs)
+    (λ c. search needs)
     loop-again
     returns)

@@ -1,7 +1,7 @@
 -- `roots::increment` meets its contract. The loop's invariant: v adds at most the gap to the square, and end adds more. The measure is their distance.
 -- Assumes nothing.
-use mathlib.Core.Path.{_≡_, subst}
-use Prim.Native.Nat.{ℕ, _+_, _-_, _*_, _/_, _≤_, _<_}
+use mathlib.Core.Path.{_≡_}
+use Prim.Native.Nat.{_+_, _-_, _*_, _/_, _≤_, _<_}
 use native.Mathlib.Omega.{arith}
 use borrow.Author.Needs.{needs}
 use Rattle.roots.proofs.Squares.{factor-pos, gain-lt}
@@ -17,61 +17,22 @@ abbrev μ-loop : tie.MeasureT-loop
 loop-holds : tie.Need-loop-holds Inv-loop μ-loop
 loop-holds c = (factor-pos (c .args .limit) (2 * c .args .a + c .args .limit) (c .pre .0), search needs, search needs, c .pre .0)
 
-sub-loop : tie.Need-sub-loop Inv-loop μ-loop
-sub-loop c = search needs
-
-sub-middle : tie.Need-sub-middle Inv-loop μ-loop
-sub-middle c = search needs
-
-add-middle : tie.Need-add-middle Inv-loop μ-loop
-add-middle c = search needs
-
-mul-if1 : tie.Need-mul-if1 Inv-loop μ-loop
-mul-if1 c = search needs
-
-add-if1 : tie.Need-add-if1 Inv-loop μ-loop
-add-if1 c = search needs
-
 mul-if1-2 : tie.Need-mul-if1-2 Inv-loop μ-loop
 mul-if1-2 c =
     let loop = c .before .loop in
     let a = c .before .before .args in
     omega (arith, gain-lt (a .a) {v = loop .v + (loop .end - loop .v) / 2} {w = a .limit} (omega arith))
 
-loop-less : tie.Need-loop-less Inv-loop μ-loop
-loop-less c = search needs
-
-loop-again : tie.Need-loop-again Inv-loop μ-loop
-loop-again c = search needs
-
-loop-less-2 : tie.Need-loop-less-2 Inv-loop μ-loop
-loop-less-2 c = search needs
-
-loop-again-2 : tie.Need-loop-again-2 Inv-loop μ-loop
-loop-again-2 c = search needs
-
 returns : tie.Need-returns Inv-loop μ-loop
 returns c =
     let loop = c .before .loop in
     let a = c .before .before .args .a in
     let last : loop .end ≡ loop .v + 1 = omega arith in
-    (loop .inv .2, subst (λ (x : ℕ). c .before .before .args .gap < x * (2 * a + x)) last (loop .inv .3), search needs)
+    (loop .inv .2, rw last at (loop .inv .3), search needs)
 
 pub increment-spec : {M : Type 1} → statement M
 increment-spec =
     tie.close
-    (tie.spec
-    Inv-loop
-    μ-loop
-    loop-holds
-    sub-loop
-    sub-middle
-    add-middle
-    mul-if1
-    add-if1
-    mul-if1-2
-    loop-less
-    loop-again
-    loop-less-2
-    loop-again-2
-    returns)
+    (tie.spec Inv-loop μ-loop loop-holds
+    (λ c. search needs) (λ c. search needs) (λ c. search needs) (λ c. search needs) (λ c. search needs) mul-if1-2
+    (λ c. search needs) (λ c. search needs) (λ c. search needs) (λ c. search needs) returns)

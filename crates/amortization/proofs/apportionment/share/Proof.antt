@@ -1,38 +1,29 @@
 -- `share` meets its contract.
 -- Assumes nothing.
-use borrow.Author.Needs.{needs}
-use borrow.Author.Tests.{eq-eqb, ne-eqb}
 use mathlib.Core.Path.{_≡_}
 use mathlib.Core.Bool.{true, false, _||_}
 use Prim.Native.Nat.{ℕ}
 use native.Mathlib.Omega.{arith}
+use borrow.Author.Needs.{needs}
+use borrow.Author.Tests.{eq-eqb, ne-eqb}
 use Rattle.fractions.specs.Rounding.{floor, ceiling}
 use Rattle.refusals.specs.Range.{outside}
 use Rattle.refusals.specs.Response.{respond}
 use Rattle.amortization.specs.Share.{shareBy}
+use Rattle.amortization.specs.Ranges.{InRange}
 use Rattle.amortization.proofs.Enclosure.{share-most}
-use Rattle.amortization.proofs.Inside.{Inside, both-inside}
+use Rattle.amortization.proofs.Given.{in-range}
 use Rattle.amortization.proofs.apportionment.share.Statement.{statement}
 use Rattle.amortization.proofs.apportionment.share.Tie as tie
-use Rattle.amortization.proofs.apportionment.share.Reads as reads
-use Rattle.amortization.proofs.apportionment.share.Lts as lts
-use Rattle.amortization.proofs.apportionment.share_by.Reads as share-by-reads
-use Rattle.refusals.proofs.outside.Reads as outside-reads
-
-outside-requires : tie.Need-outside-requires
-outside-requires c κs = search needs
-
-outside-requires-2 : tie.Need-outside-requires-2
-outside-requires-2 c κs = search needs
 
 returns : tie.Need-returns
 unfolding respond
 returns c =
     let a = c .before .before .before .args in
-    let is-outside : (outside (a .rate) 1 3_000 || outside (a .years) 2 30) ≡ true = rw (c .before .before .outside .ensures, c .before .outside2 .ensures) at (c .if1 .taken) in
+    let is-outside : outside (a .rate) 1 3_000 || outside (a .years) 2 30 ≡ true = rw (c .before .before .outside .ensures, c .before .outside2 .ensures) at (c .if1 .taken) in
     rw is-outside
 
-module _ (c : lts.Else1 (outside-reads.Asked, outside-reads.Learnt, share-by-reads.Asked, share-by-reads.Learnt) reads.Pre reads.Post) where
+module _ (c : tie.Else1) where
   abbrev rate : ℕ
   rate = c .before .before .before .args .rate
 
@@ -42,20 +33,8 @@ module _ (c : lts.Else1 (outside-reads.Asked, outside-reads.Learnt, share-by-rea
   not-outside : (outside rate 1 3_000 || outside years 2 30) ≡ false
   not-outside = rw (c .before .before .outside .ensures, c .before .outside2 .ensures) at (c .if1 .left)
 
-  admitted : Inside rate years
-  admitted = both-inside rate years not-outside
-
-share-by-requires : tie.Need-share-by-requires
-share-by-requires c κs = let h = admitted c in ((h .rate-least, h .rate-most), (h .term-least, h .term-most))
-
-share-by-requires-2 : tie.Need-share-by-requires-2
-share-by-requires-2 c κs = let h = admitted (c .before) in ((h .rate-least, h .rate-most), (h .term-least, h .term-most))
-
-cast-t11 : tie.Need-cast-t11
-cast-t11 c =
-    let e = c .before .before .before in
-    let h = admitted e in
-    record { fits = rw (c .before .share-by2 .ensures) (omega (arith, share-most (rate e) (years e) (h .rate-least) (h .term-least) (h .rate-most))) }
+  admitted : InRange rate years
+  admitted = in-range rate years not-outside
 
 returns-2 : tie.Need-returns-2
 unfolding respond
@@ -74,12 +53,6 @@ returns-3 c =
 pub share-spec : {M : Type 1} → statement M
 share-spec =
     tie.close
-    (tie.spec
-    outside-requires
-    outside-requires-2
-    returns
-    share-by-requires
-    share-by-requires-2
-    cast-t11
-    returns-2
-    returns-3)
+    (tie.spec (λ c κs. search needs) (λ c κs. search needs) returns (λ c κs. admitted c) (λ c κs. admitted (c .before))
+    (λ c. let e = c .before .before .before in omega (arith, c .before .share-by2 .ensures, share-most (rate e) (years e) (admitted e)))
+    returns-2 returns-3)

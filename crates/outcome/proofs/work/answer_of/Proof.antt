@@ -2,24 +2,12 @@
 -- Assumes nothing.
 use mathlib.Core.Path.{ap, _∙_}
 use native.Mathlib.Omega.{arith}
-use Rattle.balance.proofs.Sizes.{provided-size}
+use Rattle.provision.proofs.Sizes.{provided-size}
 use Rattle.sheet.specs.Answer.{lossCheck, surfaceCheck, surfaceBound, answerOf}
-use Rattle.quadrature.specs.Ladder.{thicknessAt}
+use Rattle.lengths.specs.Ladder.{thicknessAt}
 use borrow.Author.Needs.{needs}
 use Rattle.outcome.proofs.work.answer_of.Statement.{statement}
 use Rattle.outcome.proofs.work.answer_of.Tie as tie
-
-shape-requires : tie.Need-shape-requires
-shape-requires c κs = search needs
-
-thickness-requires : tie.Need-thickness-requires
-thickness-requires c κs = search needs
-
-loss-check-requires : tie.Need-loss-check-requires
-loss-check-requires c κs = search needs
-
-surface-check-requires : tie.Need-surface-check-requires
-surface-check-requires c κs = search needs
 
 surface-bound-requires : tie.Need-surface-bound-requires
 surface-bound-requires c κs =
@@ -37,15 +25,15 @@ returns c =
     let loss = c .before .before .loss-check .ensures ∙ ap (lossCheck s) provided in
     let surface = c .before .surface-check .ensures ∙ ap (surfaceCheck s) provided in
     let bound = c .surface-bound .ensures ∙ ap (surfaceBound s) provided in
-    λ j. record { shape = c .before .before .before .before .shape .ensures j; thickness = record { 0 = c .before .before .before .thickness .ensures j }; loss = loss j; surface = surface j; bound = bound j }
+    λ j. record { shape = c .before .before .before .before .shape .ensures j; thickness = c .before .before .before .thickness .ensures j; loss = loss j; surface = surface j; bound = bound j }
 
 pub answer-of-spec : {M : Type 1} → statement M
 answer-of-spec =
     tie.close
     (tie.spec
-    shape-requires
-    thickness-requires
-    loss-check-requires
-    surface-check-requires
+    (λ c κs. search needs)
+    (λ c κs. search needs)
+    (λ c κs. search needs)
+    (λ c κs. search needs)
     surface-bound-requires
     returns)

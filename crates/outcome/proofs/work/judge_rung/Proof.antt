@@ -3,12 +3,13 @@
 use mathlib.Core.Path.{_≡_, sym, ap, _∙_}
 use Rattle.fractions.specs.declared.Bounds.{Bounds}
 use Rattle.refusals.specs.Response.{complete}
-use Rattle.quadrature.specs.Ladder.{thicknessAt}
-use Rattle.balance.specs.Provided.{provided}
-use Rattle.balance.specs.Verdict.{judged, isUndecided}
-use Rattle.sheet.specs.declared.encoding.Answer.{Answer}
+use Rattle.lengths.specs.Ladder.{thicknessAt}
+use Rattle.provision.specs.Provided.{provided}
+use Rattle.verdict.specs.Verdict.{judged, isUndecided}
+use Rattle.answer.specs.declared.Answer.{Answer}
 use Rattle.sheet.specs.Search.{verdicts, chosen}
-use Rattle.sheet.specs.Answer.{encoded, answerOf}
+use Rattle.answer.specs.Answer.{encoded}
+use Rattle.sheet.specs.Answer.{answerOf}
 use Rattle.sheet.proofs.Ladder.{first-undecided, first-decided}
 use borrow.Author.Needs.{needs}
 use Rattle.outcome.proofs.work.judge_rung.Statement.{statement}
@@ -23,12 +24,6 @@ verdict c =
     let had = ap (λ (p : Bounds). judged p (a .required)) (pre .1 .2) in
     let needed = ap (judged (provided (a .sheet .line) (thicknessAt (a .r)))) (pre .0 .1) in
     c .is-undecided .ensures ∙ ap isUndecided (c .before .judge .ensures ∙ had ∙ needed ∙ ap (verdicts (a .sheet)) (pre .1 .0))
-
-judge-requires : tie.Need-judge-requires
-judge-requires c κs = search needs
-
-is-undecided-requires : tie.Need-is-undecided-requires
-is-undecided-requires c κs = search needs
 
 returns : tie.Need-returns
 returns c =
@@ -50,4 +45,4 @@ returns-2 c =
 
 pub judge-rung-spec : {M : Type 1} → statement M
 judge-rung-spec =
-    tie.close (tie.spec judge-requires is-undecided-requires returns answer-of-requires returns-2)
+    tie.close (tie.spec (λ c κs. search needs) (λ c κs. search needs) returns answer-of-requires returns-2)

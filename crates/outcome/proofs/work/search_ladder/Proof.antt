@@ -1,13 +1,14 @@
 -- The search of the ladder meets its contract.
 -- Assumes nothing.
 use mathlib.Core.Path.{_≡_, refl, sym, ap, _∙_}
-use Rattle.balance.specs.declared.provision.Provision.{Provision}
-use Rattle.balance.specs.Choice.{searched}
-use Rattle.balance.specs.Prepared.{provision}
-use Rattle.balance.proofs.Choices.{Told, told}
+use Rattle.provision.specs.declared.Provision.{Provision}
+use Rattle.verdict.specs.Choice.{searched}
+use Rattle.provision.specs.Prepared.{provision}
+use Rattle.verdict.proofs.Choices.{Told, told}
 use Rattle.sheet.specs.Sheet.{goalOf}
 use Rattle.sheet.specs.Search.{requiredOf, chosen}
-use Rattle.sheet.specs.Answer.{encoded, answerOf}
+use Rattle.answer.specs.Answer.{encoded}
+use Rattle.sheet.specs.Answer.{answerOf}
 use Rattle.sheet.proofs.Ladder.{all-insufficient}
 use borrow.Author.Needs.{needs}
 use Rattle.outcome.proofs.work.search_ladder.Statement.{statement}
@@ -24,24 +25,12 @@ found c =
     let is = c .search .ensures ∙ ap (λ (p : Provision). searched (p .line) (c .before .before .required-by .result)) (c .before .of .ensures) ∙ ap (searched (s .line)) required in
     (required, rw is (told (s .line) (requiredOf s (goalOf s))))
 
-goal-of-requires : tie.Need-goal-of-requires
-goal-of-requires c κs = search needs
-
 required-by-requires : tie.Need-required-by-requires
 required-by-requires c κs = (c .before .pre, rw (c .goal-of .ensures) (c .before .pre .goal))
-
-of-requires : tie.Need-of-requires
-of-requires c κs = search needs
 
 search-requires : tie.Need-search-requires
 unfolding provision
 search-requires c κs = rw (c .of .ensures) (c .before .before .before .pre .line, refl)
-
-enum-told : tie.Need-enum-told
-enum-told c = search needs
-
-enum-known-r : tie.Need-enum-known-r
-enum-known-r c = search needs
 
 judge-rung-requires : tie.Need-judge-rung-requires
 judge-rung-requires c κs =
@@ -61,12 +50,12 @@ pub search-ladder-spec : {M : Type 1} → statement M
 search-ladder-spec =
     tie.close
     (tie.spec
-    goal-of-requires
+    (λ c κs. search needs)
     required-by-requires
-    of-requires
+    (λ c κs. search needs)
     search-requires
-    enum-told
-    enum-known-r
+    (λ c. search needs)
+    (λ c. search needs)
     judge-rung-requires
     returns
     returns-2)

@@ -3,23 +3,12 @@
 use mathlib.Core.Path.{refl}
 use native.Mathlib.Nat.{add-sub-cancel-left}
 use borrow.Author.Needs.{needs}
+use Rattle.overlay.proofs.Parts.{length-part}
 use Rattle.reading.proofs.entry.slot.Statement.{statement}
 use Rattle.reading.proofs.entry.slot.Tie as tie
 
-add-end : tie.Need-add-end
-add-end c = search needs
-
-sub-result : tie.Need-sub-result
-sub-result c = search needs
-
-part-result-start : tie.Need-part-result-start
-part-result-start c = search needs
-
-part-result-end : tie.Need-part-result-end
-part-result-end c = search needs
-
 returns : tie.Need-returns
-returns c = rw (add-sub-cancel-left (c .before .args .at) (c .before .args .size)) refl
+returns c = rw (add-sub-cancel-left (c .before .args .offset) (c .before .args .size)) (refl, length-part (c .before .args .book .now) (c .before .args .offset) (c .before .args .size) (c .before .pre))
 
 pub slot-spec : {M : Type 1} → statement M
-slot-spec = tie.close (tie.spec add-end sub-result part-result-start part-result-end returns)
+slot-spec = tie.close (tie.spec (λ c. search needs) (λ c. search needs) (λ c. search needs) (λ c. search needs) returns)

@@ -1,7 +1,0 @@
-pub mod Requirements
-pub mod Enclosure
-pub mod Search
-pub mod Judgement
-pub mod Growth
-pub mod Choices
-pub mod Sizes

@@ -1,0 +1,75 @@
+// The checks of a thickness, the bound on the surface's temperature, and what a sheet's goal requires.
+mod goal;
+
+ghost use mathlib.Core.Path.{_≡_};
+ghost use Prim.Native.Nat.{_*_, _^_, _≤_};
+ghost use Rattle.fractions.specs.Fraction.{_over_};
+ghost use Rattle.fractions.specs.Rounding.{ceiling};
+ghost use Rattle.line.specs.Range.{LineInRange};
+ghost use Rattle.provision.specs.Provided.{film};
+ghost use Rattle.sheet.specs.Answer.{lossCheck, surfaceCheck, surfaceBound};
+ghost use Rattle.sheet.specs.Admitted.{Admitted};
+use answer::LossCheck;
+use fractions::Bounds;
+use fractions::quotient;
+pub use goal::goal_of;
+pub use goal::required_by;
+use limits::loss_limit;
+use limits::surface_limit;
+use line::Line;
+use requirement::Goal;
+use sheet::Sheet;
+use temperatures::Temperature;
+use verdict::Verdict;
+use verdict::judge;
+
+// The loss check of a thickness whose have is `provided`.
+pub fn loss_check(sheet: Sheet, provided: Bounds) -> LossCheck
+    requires { ⌜ Admitted sheet ⌝ }
+    ensures { λ r. ⌜ r ≡ lossCheck sheet provided ⌝ }
+{
+    let limit = loss_limit(sheet.service, sheet.temperature);
+    if limit == 0 {
+        return LossCheck::NonePrinted;
+    }
+    LossCheck::Judged(judge(provided, required_by(sheet, Goal::Loss(limit))))
+}
+
+// Its surface check.
+pub fn surface_check(sheet: Sheet, provided: Bounds) -> Verdict
+    requires { ⌜ Admitted sheet ⌝ }
+    ensures { λ r. ⌜ r ≡ surfaceCheck sheet provided ⌝ }
+{
+    let limit = surface_limit(sheet.ambient);
+    if sheet.temperature.0 <= limit.0 {
+        return Verdict::Sufficient;
+    }
+    judge(
+        provided,
+        required_by(sheet, Goal::Surface((limit.0 - sheet.ambient.0) as u64)),
+    )
+}
+
+// The temperature that the surface stays at or below.
+pub fn surface_bound(sheet: Sheet, provided: Bounds) -> Temperature
+    requires { ⌜ Admitted sheet × (1 ≤ provided .lower) × (provided .lower ≤ 2 ^ 40) ⌝ }
+    ensures { λ r. ⌜ r ≡ surfaceBound sheet provided ⌝ }
+{
+    let difference = (sheet.temperature.0 - sheet.ambient.0) as u64;
+    let above = rise(sheet.line, difference, provided.lower);
+    if difference <= above {
+        return sheet.temperature;
+    }
+    Temperature(sheet.ambient.0 + above as u16)
+}
+
+// How far the surface is above the air at the most: 2LΔ × 10⁷ / (α × under-have), and on a flat wall LΔ × 10⁷ / (α × under-have), rounded up.
+fn rise(line: Line, difference: u64, lower: u64) -> u64
+    requires { ⌜ LineInRange line × (difference ≤ 7_000) × (1 ≤ lower) × (lower ≤ 2 ^ 40) ⌝ }
+    ensures { λ r. ⌜ r ≡ ceiling ((film line .num * difference) over (film line .den * lower)) ⌝ }
+{
+    quotient(
+        line.conduction(difference) * 10_000_000,
+        line.coefficient * lower,
+    ).upper
+}

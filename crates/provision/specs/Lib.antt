@@ -1,0 +1,3 @@
+pub mod Provided
+pub mod Exact
+pub mod Prepared

@@ -1,0 +1,3 @@
+pub mod Required
+pub mod Exact
+pub mod Ranges

@@ -1,0 +1,14 @@
+-- A goal by its code meets its contract.
+-- Assumes nothing.
+use borrow.Author.Tests.{eq-eqb, ne-eqb}
+use borrow.Author.Needs.{needs}
+use Rattle.sheet.proofs.fields.GoalCode.of.Statement.{statement}
+use Rattle.sheet.proofs.fields.GoalCode.of.Tie as tie
+
+pub of-spec : {M : Type 1} → statement M
+of-spec =
+    tie.close
+    (tie.spec
+    (λ c. rw (eq-eqb (c .before .args .code) 1 (c .if1 .taken)))
+    (λ c. rw (ne-eqb (c .before .before .args .code) 1 (c .before .if1 .left), eq-eqb (c .before .before .args .code) 2 (c .if2 .taken)))
+    (λ c. rw (ne-eqb (c .before .before .args .code) 1 (c .before .if1 .left), ne-eqb (c .before .before .args .code) 2 (c .if2 .left))))

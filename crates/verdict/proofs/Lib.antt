@@ -1,0 +1,4 @@
+pub mod FirstRung
+pub mod Judgement
+pub mod Growth
+pub mod Choices

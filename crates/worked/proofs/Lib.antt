@@ -1,0 +1,5 @@
+pub mod Ladder
+pub mod Sheets
+pub mod Examples
+pub mod Listing
+pub mod Book
