@@ -1,4 +1,4 @@
--- The listing of the sheets F and G, by computation.
+-- The listing: of the sheets F and G, and of no input, by computation.
 -- Assumes nothing.
 use mathlib.Core.Path.{refl}
 use Rattle.quadrature.specs.Figures.{lowerStep, upperStep}
@@ -16,7 +16,8 @@ use Rattle.sheet.specs.Answer.{lossCheck, surfaceCheck, surfaceBound, answerOf}
 use Rattle.text.specs.Text.{decimalUpTo, decimal, concatenated}
 use Rattle.listing_text.specs.Line.{lineOf}
 use Rattle.worked.specs.Listing.{WorkedListing}
+use Rattle.worked.proofs.Cut.{listing-cut}
 
 pub worked-listing : WorkedListing
 unfolding lowerStep upperStep least insulation film insulationBounds filmBounds provided requirement enclosing firstNotInsufficient bigEndian bytesOf decoded neighbours lossLimit lossCheck surfaceCheck surfaceBound encoded answerOf firstFault respond decimalUpTo decimal concatenated lineOf
-worked-listing = refl
+worked-listing = record { f-then-g = refl; empty = refl; in-blocks = listing-cut }

@@ -1,14 +1,14 @@
 -- The lines do not depend on how the input is cut into blocks, as long as each block but the last has whole sheets.
 -- Assumes nothing.
 use mathlib.Core.Path.{_≡_, refl, sym, ap, _∙_}
-use mathlib.Core.List.{List, [], _++_, append-nil, append-assoc}
+use mathlib.Core.List.{List, _++_, append-nil, append-assoc}
 use Prim.Native.Nat.{ℕ, zero, suc, _+_, _*_, _<_, _≤_}
 use native.Mathlib.Nat.{add-zero, add-suc}
 use native.Mathlib.Omega.{arith}
 use lib.ListN.{length, take, drop, length-append, length-drop}
 use lib.Seq.{drop-append-add, take-append-le, drop-append-le}
 use Rattle.text.specs.Text.{concatenated}
 use Rattle.listing_text.specs.Listing.{chunks, chunk, lineAt, linesOf, header, listing}
 
 module _ (a b : List ℕ) (n : ℕ) (whole : length a ≡ 24 * n) where
   -- the first n chunks are those of a, and the others those of b
@@ -41,8 +41,3 @@ module _ (a b : List ℕ) (n : ℕ) (whole : length a ≡ 24 * n) where
   -- so a listing goes on, block by block
   pub listing-cut : listing (a ++ b) ≡ listing a ++ linesOf b
   listing-cut = ap (λ (text : List ℕ). header ++ text) cut ∙ sym (append-assoc header (linesOf a) (linesOf b))
-
--- "The header always stands first, also for empty input."
-pub listing-empty : listing [] ≡ header
-unfolding concatenated
-listing-empty = refl
