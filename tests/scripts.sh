@@ -26,7 +26,8 @@ report() {
 gives() {
     name=$1 text=$2
     shift 2
-    "$@" >"$made/out" 2>&1 || echo 'it failed' >>"$made/out"
+    "$@" >"$made/out" 2>"$made/err" || echo 'it failed' >>"$made/out"
+    if [ -s "$made/err" ]; then cat "$made/err" && echo 'on standard error'; fi >>"$made/out"
     echo "$text" | report "$name"
 }
 
@@ -97,20 +98,28 @@ while read -r column value name said held; do
     # shellcheck disable=SC2086,SC2046 # the numbers of a sheet are words
     refuses "a sheet with $name $value" "$name is $said, but its field holds $held" python3 tools/sheet.py $(with "$column" "$value" "$sheet")
 done <<END
-1 256 goal 256 0 to 255
-2 -1 service -1 0 to 255
-3 66000 D 66,000 0 to 65,535
-3 -1 D -1 0 to 65,535
-4 32768 t 32,768 -32,768 to 32,767
-4 -32769 t -32,769 -32,768 to 32,767
-5 32768 ta 32,768 -32,768 to 32,767
-8 65600 f 65,600 0 to 65,535
+1 256 goal 256 the whole numbers 0 to 255
+2 -1 service -1 the whole numbers 0 to 255
+3 66000 D 66,000 the whole numbers 0 to 65,535
+3 -1 D -1 the whole numbers 0 to 65,535
+4 32768 t 32,768 the whole numbers -32,768 to 32,767
+4 -32769 t -32,769 the whole numbers -32,768 to 32,767
+5 32768 ta 32,768 the whole numbers -32,768 to 32,767
+8 65600 f 65,600 the whole numbers 0 to 65,535
 10 800.5 P 800.5 whole numbers
-12 -1 aim -1 0 to 65,535
+12 -1 aim -1 the whole numbers 0 to 65,535
 END
 # shellcheck disable=SC2086,SC2046
-refuses 'a sheet with a surface aim' 'aim is 32,768, but its field holds -32,768 to 32,767' \
+refuses 'a sheet with a surface aim' 'aim is 32,768, but its field holds the whole numbers -32,768 to 32,767' \
     python3 tools/sheet.py $(with 12 32768 "$(with 1 3 "$sheet")")
+
+# made TEXT: a sheet from what a caller hands over
+made() { python3 -c "import sys; sys.path.insert(0, 'tools'); import sheet; print(sheet.sheet_of($1).hex())"; }
+fields='goal=1, service=1, D=270, t=207, ta=70, L=333, alpha=2_048, f=7_500, tau=2_880, P=1_600, S=2_296'
+gives 'a sheet by the names of its fields' 01010007010e00cf0046014d08001d4c0b40064008f80000 made "$fields, aim=0, line=7"
+refuses 'half an aim' 'aim is 0.5, but its field holds the whole numbers 0 to 65,535' made "$fields, aim=0.5"
+refuses 'another name' 'lien is no field of a sheet' made "$fields, aim=0, lien=7"
+refuses 'a name that is missing' 'aim is not given' made "$fields"
 
 for example in plant rows; do
     python3 examples/$example.py >"$made/out"

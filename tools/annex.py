@@ -5,10 +5,12 @@ The program's expected output was made from the project's folder by
 
     python3 tools/annex.py > crates/annex/stdout
 """
+import sys
 from fractions import Fraction
 from itertools import zip_longest
 from math import ceil, floor
 
+sys.dont_write_bytecode = True
 from sheet import SEASONAL, YEAR_ROUND
 
 

@@ -20,12 +20,12 @@ def degrees(tenths):
     return f"{'-' if tenths < 0 else ''}{abs(tenths) // 10}.{abs(tenths) % 10}"
 
 
-def line(piece):
-    """The line for one piece: a sheet of 24 bytes; a piece of another length has no line number."""
-    result = answer(piece)
-    if len(piece) != 24:
+def line(chunk):
+    """The line for one chunk: a sheet of 24 bytes; a chunk of another length has no line number."""
+    result = answer(chunk)
+    if len(chunk) != 24:
         return f"- refused {result}"
-    number = 256 * piece[2] + piece[3]
+    number = 256 * chunk[2] + chunk[3]
     if isinstance(result, int):
         return f"{number} refused {result}"
     _, shape, high, low, loss, surface, *bound = result

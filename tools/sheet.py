@@ -72,8 +72,8 @@ def encoded(name, value, size=2, negative=False):
     """The bytes of a field, unsigned or, where it may be negative, signed. A value that they cannot hold stops the script."""
     low = -(256**size // 2) if negative else 0
     high = low + 256**size - 1
-    if not low <= value <= high:
-        sys.exit(f"{name} is {value:,}, but its field holds {low:,} to {high:,}")
+    if not isinstance(value, int) or not low <= value <= high:
+        sys.exit(f"{name} is {value:,}, but its field holds the whole numbers {low:,} to {high:,}")
     return value.to_bytes(size, "big", signed=negative)
 
 
@@ -126,6 +126,9 @@ def answer(sheet):
 def sheet_of(line=0, **fields):
     """The bytes of a sheet, from its fields by their names."""
     x = {"line": line, **fields}
+    wrong = sorted(x.keys() ^ set(NAMES))
+    if wrong:
+        sys.exit(f"{wrong[0]} is {'not given' if wrong[0] in NAMES else 'no field of a sheet'}")
     return b"".join(encoded(name, x[name], 1 if name in ("goal", "service") else 2, is_signed(name, x["goal"])) for name in NAMES)
 
 

@@ -42,6 +42,9 @@ def good(r, **fixed):
 
 def wrapped(x):
     """The faulty sheet x with its fields as their bits read: bits drawn at random, or an aim under a goal that it was not made for."""
+    for name, value in x.items():
+        if not -32_768 <= value <= 65_535:
+            sys.exit(f"{name} is {value:,}, which 16 bits do not hold")
     bits = {name: value % 65_536 for name, value in x.items()}
     return {name: signed(value) if is_signed(name, x["goal"]) else value for name, value in bits.items()}
 
@@ -288,7 +291,7 @@ KINDS = [(answered, 200), (small_pipe, 80), (border_diameter, 10), (any_aim, 60)
 
 
 def sheets():
-    """The sheets, each 24 bytes, and last a piece of 17."""
+    """The sheets, each 24 bytes, and last a chunk of 17."""
     r = Random(8_175)
     made = [x for maker, count in KINDS for _ in range(count) for x in maker(r)]
     r.shuffle(made)
@@ -313,7 +316,7 @@ def classes(sheet):
 
 
 if __name__ == "__main__":
-    pieces = sheets()
-    sys.stdout.buffer.write(b"".join(pieces))
-    counts = Counter(name for piece in pieces for name in classes(piece))
-    print(f"{len(pieces)} pieces", *(f"{name}: {counts[name]}" for name in sorted(counts)), sep="\n", file=sys.stderr)
+    chunks = sheets()
+    sys.stdout.buffer.write(b"".join(chunks))
+    counts = Counter(name for chunk in chunks for name in classes(chunk))
+    print(f"{len(chunks)} chunks", *(f"{name}: {counts[name]}" for name in sorted(counts)), sep="\n", file=sys.stderr)

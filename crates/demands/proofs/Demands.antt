@@ -3,6 +3,7 @@
 use mathlib.Core.Path.{_≡_, refl, ap, _∙_}
 use mathlib.Core.List.{[]}
 use Prim.Native.Nat.{_<_}
+use native.Mathlib.Nat.{mul-pos}
 use native.Mathlib.Omega.{arith}
 use Rattle.lengths.specs.Ladder.{thicknessAt}
 use Rattle.refusals.specs.Cases.{numbers}
@@ -10,7 +11,9 @@ use Rattle.refusals.specs.Response.{after}
 use Rattle.refusals.proofs.Response.{first-or-complete}
 use Rattle.requirement.specs.Exact.{denominator}
 use Rattle.requirement.proofs.Requirements.{in-range-proper}
+use Rattle.provision.specs.Provided.{film}
 use Rattle.provision.proofs.Enclosure.{lower-provided-den, upper-provided-den}
+use Rattle.provision.proofs.Sizes.{provided-size}
 use Rattle.verdict.proofs.FirstRung.{least-anywhere}
 use Rattle.verdict.proofs.Judgement.{MeetsOn, MissesOn, meets-stays, sound}
 use Rattle.big_endian.specs.Bytes.{bigEndian}
@@ -53,10 +56,15 @@ proper : (s : Sheet) → Admitted s → 0 < denominator (requirementOf s (goalOf
 proper s in-range = in-range-proper (s .line) (difference s) (goalOf s) (in-range .line) (in-range .goal)
 
 pub denominators : Denominators
+unfolding film
 denominators sheet bytes h m hm r =
     let l = decoded sheet .line in
-    let in-range = answered sheet bytes h .0 .admitted in
-    (proper _ in-range, lower-provided-den l m (omega arith) (omega arith) hm (thicknessAt r), upper-provided-den l m (omega arith) (omega arith) hm (thicknessAt r))
+    let in-range = answered sheet bytes h .0 .admitted in (
+      proper _ in-range,
+      lower-provided-den l m (omega arith) (omega arith) hm (thicknessAt r),
+      upper-provided-den l m (omega arith) (omega arith) hm (thicknessAt r),
+      mul-pos (omega arith) (provided-size l (thicknessAt r) (in-range .line) (in-range .conductivity-from) (omega arith) .0),
+    )
 
 pub demand-3 : Demand3
 demand-3 sheet bytes h m hm r lt =

@@ -1,6 +1,6 @@
 -- What filing keeps and what it adds, for any layout.
 -- Assumes nothing.
-use mathlib.Core.Path.{_≡_, refl, sym, _∙_}
+use mathlib.Core.Path.{_≡_, sym, _∙_}
 use mathlib.Core.Logic.{_⊎_, inl, inr}
 use mathlib.Core.List.{List}
 use Prim.Native.Nat.{ℕ, suc, _+_, _*_, _≤_, _<_}
@@ -11,8 +11,6 @@ use Rattle.overlay.specs.Overlay.{part, overlay}
 use Rattle.overlay.proofs.Parts.{length-overlay, part-at, part-before, part-after}
 use Rattle.big_endian.specs.Bytes.{bytesOf}
 use Rattle.big_endian.proofs.Numerals.{same-number, length-bytes, number-put, number-zeros}
-use Rattle.answer.specs.Answer.{encoded}
-use Rattle.sheet.specs.Answer.{answer}
 use Rattle.layout.specs.declared.offsets.Layout.{Layout}
 use Rattle.layout.specs.declared.examination.Sizes.{Sizes}
 use Rattle.layout.specs.Layout.{answerSize, countOffset, sheetOffset, answerOffset, bytesFor}
@@ -28,19 +26,36 @@ stated l b = record { capacity = capacity l b; count = count l b }
 abbrev pub Sound : Layout → List ℕ → Type 0
 Sound l b = SoundBook l b (stated l b)
 
-pub new-sound : (l : Layout) (c : ℕ) → Usable l → 1 ≤ c → c ≤ l .largest → Sound l (newBook l c)
-unfolding newBook
-new-sound l c usable some most =
-    let zeros : List ℕ = replicate (bytesFor l c) 0 in
-    let bytes : List ℕ = bytesOf (l .width) c in
-    let size : length zeros ≡ bytesFor l c = length-replicate (bytesFor l c) 0 in
-    let width : length bytes ≡ l .width = length-bytes (l .width) c in
-    let cap : capacity l (newBook l c) ≡ c = number-put zeros (l .lead) (l .width) c (omega arith) (omega (arith, usable .held)) in
-    let none : count l (newBook l c) ≡ 0 =
-    same-number (newBook l c) zeros (countOffset l) (countOffset l) (l .width) (part-after zeros (l .lead) bytes (countOffset l) (l .width) (omega arith) (omega arith))
-    ∙ number-zeros (bytesFor l c) (countOffset l) (l .width) (omega arith) in
-    rw (cap, none)
-    (record { usable = usable; capacity-is = sym cap; count-is = sym none; some = some; most = most; size = length-overlay zeros (l .lead) bytes (omega arith) ∙ size; counted = omega arith })
+-- a new book
+module _ (l : Layout) (c : ℕ) (usable : Usable l) (most : c ≤ l .largest) where
+  abbrev zeros : List ℕ
+  zeros = replicate (bytesFor l c) 0
+
+  abbrev stated-capacity : List ℕ
+  stated-capacity = bytesOf (l .width) c
+
+  size : length zeros ≡ bytesFor l c
+  size = length-replicate (bytesFor l c) 0
+
+  width : length stated-capacity ≡ l .width
+  width = length-bytes (l .width) c
+
+  pub new-capacity : capacity l (newBook l c) ≡ c
+  unfolding newBook
+  new-capacity = number-put zeros (l .lead) (l .width) c (omega (arith, size)) (omega (arith, usable .held))
+
+  pub new-count : count l (newBook l c) ≡ 0
+  unfolding newBook
+  new-count =
+      same-number (newBook l c) zeros (countOffset l) (countOffset l) (l .width)
+      (part-after zeros (l .lead) stated-capacity (countOffset l) (l .width) (omega (arith, width)) (omega (arith, size)))
+      ∙ number-zeros (bytesFor l c) (countOffset l) (l .width) (omega arith)
+
+  pub new-sound : 1 ≤ c → Sound l (newBook l c)
+  unfolding newBook
+  new-sound some =
+      rw (new-capacity, new-count)
+      (record { usable = usable; capacity-is = sym new-capacity; count-is = sym new-count; some = some; most = most; size = length-overlay zeros (l .lead) stated-capacity (omega (arith, size, width)) ∙ size; counted = omega arith })
 
 -- a part that lies apart from bytes put over others is as it was
 apart :
@@ -49,13 +64,14 @@ apart :
 apart b offset v from size is within (inl before) = part-before b offset v from size before within
 apart b offset v from size is within (inr after) = part-after b offset v from size (omega arith) within
 
--- a sound book with room for a sheet of its size
-pub record Room (l : Layout) (b sheet : List ℕ) : Type 0 where
+-- a sound book with room for a sheet and an answer of its sizes
+pub record Room (l : Layout) (b sheet bytes : List ℕ) : Type 0 where
   pub is : Sound l b
   pub free : count l b < capacity l b
   pub slot : length sheet ≡ l .sheet
+  pub eight : length bytes ≡ answerSize
 
-module _ (l : Layout) (b sheet : List ℕ) where
+module _ (l : Layout) (b sheet bytes : List ℕ) where
   abbrev n : ℕ
   n = count l b
 
@@ -67,31 +83,28 @@ module _ (l : Layout) (b sheet : List ℕ) where
   b₁ = overlay b (sheetOffset l n) sheet
 
   abbrev b₂ : List ℕ
-  b₂ = overlay b₁ (answerOffset l c n) (answer sheet)
+  b₂ = overlay b₁ (answerOffset l c n) bytes
 
   abbrev b₃ : List ℕ
-  b₃ = withEntry l b sheet (answer sheet)
+  b₃ = withEntry l b sheet bytes
 
   -- their lengths, and the ends of the slots
   record Lengths : Type 0 where
     slots : l .sheet * suc n ≤ l .sheet * c
-    eight : length (answer sheet) ≡ answerSize
     number : length (bytesOf (l .width) (n + 1)) ≡ l .width
     first : length b₁ ≡ length b
     second : length b₂ ≡ length b
     third : length b₃ ≡ length b
 
-  module _ (r : Room l b sheet) where
+  module _ (r : Room l b sheet bytes) where
     lengths : Lengths
-    unfolding encoded bytesOf
     lengths =
         let slots : l .sheet * suc n ≤ l .sheet * c = mul-le-mul-left (l .sheet) (r .free) in
-        let eight : length (answer sheet) ≡ answerSize = refl in
         let number = length-bytes (l .width) (n + 1) in
         let first = length-overlay b (sheetOffset l n) sheet (omega arith) in
-        let second = length-overlay b₁ (answerOffset l c n) (answer sheet) (omega arith) ∙ first in
+        let second = length-overlay b₁ (answerOffset l c n) bytes (omega arith) ∙ first in
         let third = length-overlay b₂ (countOffset l) (bytesOf (l .width) (n + 1)) (omega arith) ∙ second in
-        record { slots = slots; eight = eight; number = number; first = first; second = second; third = third }
+        record { slots = slots; number = number; first = first; second = second; third = third }
 
     -- a part apart from the count, and one apart from both new slots too
     beside : (from size : ℕ) → (from + size ≤ countOffset l) ⊎ (countOffset l + l .width ≤ from) → part b₃ from size ≡ part b₂ from size
@@ -103,10 +116,10 @@ module _ (l : Layout) (b sheet : List ℕ) where
         (from + size ≤ countOffset l) ⊎ (countOffset l + l .width ≤ from) → part b₃ from size ≡ part b from size
     untouched from size sheets answers counts =
         beside from size counts
-        ∙ apart b₁ (answerOffset l c n) (answer sheet) from size (lengths .eight) (omega (arith, lengths)) answers
+        ∙ apart b₁ (answerOffset l c n) bytes from size (r .eight) (omega (arith, lengths)) answers
         ∙ apart b (sheetOffset l n) sheet from size (r .slot) (omega (arith, lengths)) sheets
 
-    same-capacity : capacity l b₃ ≡ c
+    pub same-capacity : capacity l b₃ ≡ c
     same-capacity = same-number b₃ b (l .lead) (l .lead) (l .width) (untouched (l .lead) (l .width) (inl (omega arith)) (inl (omega arith)) (inl (omega arith)))
 
     pub raised : count l b₃ ≡ n + 1
@@ -121,13 +134,13 @@ module _ (l : Layout) (b sheet : List ℕ) where
     pub new-sheet : storedSheet l b₃ n ≡ sheet
     new-sheet =
         beside (sheetOffset l n) (l .sheet) (inr (omega arith))
-        ∙ apart b₁ (answerOffset l c n) (answer sheet) (sheetOffset l n) (l .sheet) (lengths .eight) (omega (arith, lengths)) (inl (omega (arith, lengths)))
+        ∙ apart b₁ (answerOffset l c n) bytes (sheetOffset l n) (l .sheet) (r .eight) (omega (arith, lengths)) (inl (omega (arith, lengths)))
         ∙ (rw (r .slot) at (part-at b (sheetOffset l n) sheet (omega (arith, lengths))))
 
-    pub new-answer : storedAnswer l b₃ n ≡ answer sheet
+    pub new-answer : storedAnswer l b₃ n ≡ bytes
     new-answer =
         rw same-capacity
-        (beside (answerOffset l c n) answerSize (inr (omega arith)) ∙ (rw (lengths .eight) at (part-at b₁ (answerOffset l c n) (answer sheet) (omega (arith, lengths)))))
+        (beside (answerOffset l c n) answerSize (inr (omega arith)) ∙ (rw (r .eight) at (part-at b₁ (answerOffset l c n) bytes (omega (arith, lengths)))))
 
     -- an entry that was there
     module _ (e : ℕ) (there : e < n) where

@@ -1,11 +1,15 @@
--- The value of each field is what stands at its offset.
+-- The fields stand in the order of their offsets, and the value of each is what stands there.
 -- Assumes nothing.
-use mathlib.Core.Path.{_≡_, refl}
+use mathlib.Core.Path.{_≡_, refl, ap}
+use mathlib.Core.Bool.{Bool, true, false, cond}
 use mathlib.Core.Logic.{⊎-elim}
-use mathlib.Core.List.{List, [], _∷_, _++_, List·Memᴰ, List·Memᴰ·not-nil, List·Memᴰ·cases-cons}
+use mathlib.Core.List.{List, [], _∷_, _++_, map, List·Memᴰ, List·Memᴰ·not-nil, List·Memᴰ·cases-cons}
 use Prim.Native.Nat.{ℕ}
+use lib.Dec.{eqb}
+use lib.ListN.{getD}
 use Rattle.sheet.specs.declared.fields.GoalCode.{GoalCode}
 use Rattle.sheet.specs.declared.fields.GoalCode.the-variants.{ForEconomy, ForLoss, ForSurface}
+use Rattle.sheet.specs.declared.fields.Sheet.{Sheet}
 use Rattle.sheet.specs.Sheet.{usesEconomy, usesAim, decoded}
 use Rattle.sheet.specs.Fields.{Field, economyFields, aimFields, fields}
 use Rattle.demands.specs.Offsets.{standsAt, Offsets}
@@ -30,5 +34,21 @@ module _ (b : List ℕ) where
   unfolding decoded
   all = (refl, (refl, (refl, (refl, (refl, (refl, (refl, own (decoded b .goal))))))))
 
+  -- the offsets of the fields that only some goals use: of a goal that is economy, loss or neither
+  own-order :
+      (s : Sheet) (one two : Bool) →
+      let g = cond one ForEconomy (cond two ForLoss ForSurface) in
+      map (λ (f : Field). f .offset) (economyFields (usesEconomy g) s ++ aimFields (usesAim g) s) ≡ (14 ∷ 16 ∷ 18 ∷ 20 ∷ cond one (22 ∷ []) [])
+  own-order s true two = refl
+  own-order s false true = refl
+  own-order s false false = refl
+
+  in-order :
+      map (λ (f : Field). f .offset) (fields (decoded b)) ≡
+      (0 ∷ 1 ∷ 4 ∷ 6 ∷ 8 ∷ 10 ∷ 12 ∷ 14 ∷ 16 ∷ 18 ∷ 20 ∷ cond (eqb (getD b 0 0) 1) (22 ∷ []) [])
+  unfolding decoded
+  in-order =
+      ap (λ (rest : List ℕ). 0 ∷ 1 ∷ 4 ∷ 6 ∷ 8 ∷ 10 ∷ 12 ∷ rest) (own-order (decoded b) (eqb (getD b 0 0) 1) (eqb (getD b 0 0) 2))
+
 pub offsets : Offsets
-offsets b = each b (fields (decoded b)) (all b)
+offsets = record { order = in-order; values = λ b. each b (fields (decoded b)) (all b) }

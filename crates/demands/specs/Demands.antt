@@ -1,6 +1,6 @@
 -- The three demands of 00, "What the book must rest on".
 -- Assumes nothing.
-use Prim.Native.Nat.{ℕ, _-_, _≤_, _<_}
+use Prim.Native.Nat.{ℕ, _+_, _-_, _*_, _≤_, _<_}
 use mathlib.Core.Path.{_≡_}
 use mathlib.Core.Logic.{_⊎_, _↔_}
 use mathlib.Core.List.{List, [], _∷_, _++_}
@@ -11,7 +11,7 @@ use Rattle.quadrature.specs.Cuttings.{lowerSum, upperSum}
 use Rattle.refusals.specs.Cases.{numbers, NoneHolds}
 use Rattle.refusals.specs.Response.{refused, complete, FirstOrComplete}
 use Rattle.line.specs.Line.{shapeOf}
-use Rattle.provision.specs.Provided.{provided}
+use Rattle.provision.specs.Provided.{film, provided}
 use Rattle.provision.specs.Exact.{providedExactly}
 use Rattle.requirement.specs.Exact.{Meets, Misses, denominator}
 use Rattle.verdict.specs.declared.Verdict.{Verdict}
@@ -97,19 +97,25 @@ ReadsBack l =
     let e = count l book in
     (reading l kept e ≡ complete (sheet ++ bytes)) × (storedSheet l kept e ≡ sheet) × (storedAnswer l kept e ≡ bytes)
 
--- and such a book takes sheets until it is full: the sheet alone decides
-abbrev pub TakesSheets : Layout → Type 0
-TakesSheets l =
-    (lent : List ℕ) (c : ℕ) → making l lent c ≡ complete [] →
-    (before : List (List ℕ)) (sheet : List ℕ) →
-    let book = filedAll l (made l lent c) before in
-    count l book < capacity l book → filing l book sheet ≡ responseTo sheet
+-- and such a book, of capacity c, takes c sheets: it starts empty and keeps its capacity; while there is room the sheet alone decides, and
+-- each sheet that is filed counts one
+pub record TakesSheets (l : Layout) (lent : List ℕ) (c : ℕ) : Type 0 where
+  pub starts-empty : count l (made l lent c) ≡ 0
+  pub keeps-capacity : (before : List (List ℕ)) → capacity l (filedAll l (made l lent c) before) ≡ c
+  pub sheet-decides :
+      (before : List (List ℕ)) (sheet : List ℕ) →
+      let book = filedAll l (made l lent c) before in
+      count l book < c → filing l book sheet ≡ responseTo sheet
+  pub counts-one :
+      (before : List (List ℕ)) (sheet bytes : List ℕ) →
+      let book = filedAll l (made l lent c) before in
+      filing l book sheet ≡ complete bytes → count l (filed l book sheet) ≡ count l book + 1
 
 -- Demand 2, of sheets and of the book
 pub record Demand2 : Type 0 where
   pub of-sheets : (sheet : List ℕ) → SheetDemand2 sheet
   pub reads-back : ReadsBack standard
-  pub takes-sheets : TakesSheets standard
+  pub takes-sheets : (lent : List ℕ) (c : ℕ) → making standard lent c ≡ complete [] → TakesSheets standard lent c
 
 -- Demand 3: "For every answered sheet, every cutting of the logarithm's area that the paper allows, however fine, and every rung of the
 -- ladder: that rung equals the thickness we give exactly when it meets the exact equation on that cutting's under-sum and the rung below
@@ -125,11 +131,13 @@ Demand3 =
     (Meets required (providedExactly (lowerSum m) (s .line) (thicknessAt r)) ×
     ((r ≡ 0) ⊎ Misses required (providedExactly (upperSum m) (s .line) (thicknessAt (r - 1)))))
 
--- What demand 3 compares are fractions: no denominator of have, by either sum, or of need is 0.
+-- What demand 3 compares are fractions: no denominator of need, or of have by either sum, is 0. Nor is that of the surface bound, which
+-- demand 2 speaks of: α × under-have.
 abbrev pub Denominators : Type 0
 Denominators =
     (sheet bytes : List ℕ) → responseTo sheet ≡ complete bytes → (m : ℕ) → 1 ≤ m → (r : ℕ) →
     let s = decoded sheet in
     (0 < denominator (requirementOf s (goalOf s))) ×
     (0 < providedExactly (lowerSum m) (s .line) (thicknessAt r) .den) ×
-    (0 < providedExactly (upperSum m) (s .line) (thicknessAt r) .den)
+    (0 < providedExactly (upperSum m) (s .line) (thicknessAt r) .den) ×
+    (0 < film (s .line) .den * provided (s .line) (thicknessAt r) .lower)

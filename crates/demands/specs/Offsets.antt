@@ -3,7 +3,7 @@
 use Prim.Native.Nat.{ℕ}
 use mathlib.Core.Path.{_≡_}
 use mathlib.Core.Bool.{cond, _||_}
-use mathlib.Core.List.{List, List·Memᴰ}
+use mathlib.Core.List.{List, [], _∷_, map, List·Memᴰ}
 use lib.Dec.{ltb, eqb}
 use lib.ListN.{getD}
 use Rattle.big_endian.specs.Bytes.{bigEndian}
@@ -16,6 +16,11 @@ abbrev pub standsAt : List ℕ → ℕ → ℕ
 standsAt b offset =
     cond (ltb offset 2) (getD b offset 0) (cond (eqb offset 6 || eqb offset 8) (signed (bigEndian b offset 2) .0) (bigEndian b offset 2))
 
--- the value of every field in the list of fields and ranges is what stands at its offset
-abbrev pub Offsets : Type 0
-Offsets = (b : List ℕ) (f : Field) → List·Memᴰ f (fields (decoded b)) → f .value ≡ standsAt b (f .offset)
+pub record Offsets : Type 0 where
+  -- the list of fields and ranges has every field but the line number, in the order of their offsets; the aim is in it for goal 1 only
+  pub order :
+      (b : List ℕ) →
+      map (λ (f : Field). f .offset) (fields (decoded b)) ≡
+      (0 ∷ 1 ∷ 4 ∷ 6 ∷ 8 ∷ 10 ∷ 12 ∷ 14 ∷ 16 ∷ 18 ∷ 20 ∷ cond (eqb (getD b 0 0) 1) (22 ∷ []) [])
+  -- the value of each is what stands at its offset
+  pub values : (b : List ℕ) (f : Field) → List·Memᴰ f (fields (decoded b)) → f .value ≡ standsAt b (f .offset)

@@ -13,12 +13,12 @@ use lib.ListN.{length, getD, getElem?}
 use borrow.Author.Tests.{le-leb, lt-leb, eq-eqb, ne-eqb}
 use borrow.Enum.Match.{each-below}
 use Rattle.temperatures.specs.declared.Temperature.{Temperature}
-use Rattle.temperatures.specs.Temperature.{zeroDegrees, celsius}
+use Rattle.temperatures.specs.Temperature.{zeroDegrees, tenthsCelsius}
 use Rattle.limits.specs.Limits.{Row, table, rowAt, limitOf, neighbours, interpolated, lossLimit}
 
 -- row n, and one with no limit after the last
 abbrev pub blank : Row
-blank = record { temperature = celsius 0; yearRound = 0; seasonal = 0 }
+blank = record { temperature = tenthsCelsius 0; yearRound = 0; seasonal = 0 }
 
 abbrev pub nth : ℕ → Row
 nth n = getD table n blank

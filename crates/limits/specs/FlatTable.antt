@@ -17,7 +17,7 @@ place row service = 2 * row + (service + 1) % 2
 
 -- what is promised of the list
 pub record Placement : Type 0 where
-  -- "26 numbers", and every place is one of them
+  -- "26 numbers", and the place of every row lies in the list
   pub size : length flatTable ≡ 26
   pub within : (row service : ℕ) → row < length table → place row service < 26
   -- "for every row and all four services it holds the printed limit, or 0"

@@ -9,7 +9,7 @@ use lib.ListN.{getElem?}
 use Rattle.fractions.specs.Fraction.{_over_}
 use Rattle.fractions.specs.Rounding.{floor}
 use Rattle.temperatures.specs.declared.Temperature.{Temperature}
-use Rattle.temperatures.specs.Temperature.{celsius}
+use Rattle.temperatures.specs.Temperature.{tenthsCelsius}
 
 pub record Row : Type 0 where
   pub temperature : Temperature
@@ -18,7 +18,7 @@ pub record Row : Type 0 where
 
 -- a row by its temperature in °C
 abbrev pub row : ℕ → ℕ → ℕ → Row
-row t y s = record { temperature = celsius (10 * t); yearRound = y; seasonal = s }
+row t y s = record { temperature = tenthsCelsius (10 * t); yearRound = y; seasonal = s }
 
 -- "Limits in W/m² by t in °C (001, table 5.1.1), year-round / seasonal", 0 where none is printed
 abbrev pub table : List Row
@@ -38,7 +38,7 @@ column service r = cond (eqb service 1 || eqb service 3) (r .yearRound) (r .seas
 abbrev pub limitOf : ℕ → Row → ℕ
 limitOf service r = 10 * column service r
 
--- the rows on either side of a temperature, each of which may be missing
+-- the row at or below a temperature and the next one, each of which may be missing
 pub record Neighbours : Type 0 where
   pub below : Option Row
   pub above : Option Row
@@ -74,4 +74,4 @@ lossLimit service t = let rows = neighbours t none table in limitFrom service t 
 
 -- "Surface limit: 50.0 °C for ta up to 27.0, else ta + 25.0 (001, 3.0.5)."
 abbrev pub surfaceLimit : Temperature → Temperature
-surfaceLimit ta = cond (leb (ta .0) (celsius 270 .0)) (celsius 500) (record { 0 = ta .0 + 250 })
+surfaceLimit ta = cond (leb (ta .0) (tenthsCelsius 270 .0)) (tenthsCelsius 500) (record { 0 = ta .0 + 250 })

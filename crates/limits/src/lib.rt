@@ -2,7 +2,7 @@
 ghost use mathlib.Core.Path.{_≡_};
 ghost use Prim.Native.Nat.{_≤_, _<_};
 ghost use lib.ListN.{getD};
-ghost use Rattle.temperatures.specs.Temperature.{celsius};
+ghost use Rattle.temperatures.specs.Temperature.{tenthsCelsius};
 ghost use Rattle.limits.specs.Limits.{interpolated, lossLimit, surfaceLimit};
 ghost use Rattle.limits.specs.FlatTable.{flatTable, place};
 use temperatures::Temperature;
@@ -49,7 +49,7 @@ pub fn flat_table() -> [u64; 26]
 
 // The limit of heat loss in 0.1 W/m² for a service and a pipe's temperature, or 0 where none is printed.
 pub fn loss_limit(service: u64, temperature: Temperature) -> u64
-    requires { ⌜ (1 ≤ service) × (service ≤ 4) × (temperature .0 ≤ celsius 6_500 .0) ⌝ }
+    requires { ⌜ (1 ≤ service) × (service ≤ 4) × (temperature .0 ≤ tenthsCelsius 6_500 .0) ⌝ }
     ensures { λ r. ⌜ r ≡ lossLimit service temperature ⌝ }
 {
     if temperature.0 < FIRST {
@@ -90,7 +90,7 @@ fn interpolate(low: u64, high: u64, beyond: u64) -> u64
 
 // The limit of the surface's temperature where the air has the temperature ambient.
 pub fn surface_limit(ambient: Temperature) -> Temperature
-    requires { ⌜ ambient .0 ≤ celsius 6_500 .0 ⌝ }
+    requires { ⌜ ambient .0 ≤ tenthsCelsius 6_500 .0 ⌝ }
     ensures { λ r. ⌜ r ≡ surfaceLimit ambient ⌝ }
 {
     if ambient.0 <= Temperature::ZERO + 270 {

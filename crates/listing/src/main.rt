@@ -74,7 +74,7 @@ fn write(bytes: &[u8]) -> bool {
     written
 }
 
-// Writes the lines of a block of at most 512 sheets, from out.
+// Writes the lines of a block of at most 512 sheets, which it puts in out first.
 fn list(sheets: &[u8], out: &mut [u8]) -> bool
     requires { ⌜ (length (now sheets) ≤ 12_288) × (108 * 512 ≤ length (now out)) ⌝ }
     ensures { λ _. ⌜ now (out .exit) ≡ overlay (now (out .entry)) 0 (linesOf (now (sheets .entry))) ⌝ }

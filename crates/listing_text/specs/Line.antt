@@ -10,7 +10,7 @@ use Rattle.sheet.specs.Sheet.{lineNumber}
 use Rattle.sheet.specs.Refusals.{responseTo}
 use Rattle.answer_text.specs.Response.{spaced, responseText}
 
--- the "line number", which a chunk of any other length does not have: "A short last piece, 1 to 23 bytes, prints "- refused 11"."
+-- the "line number", which only a chunk of 24 bytes has: "A short last piece, 1 to 23 bytes, prints "- refused 11"."
 abbrev pub lineNumberText : List ℕ → List ℕ
 lineNumberText sheet = cond (eqb (length sheet) 24) (decimal (lineNumber sheet)) (ascii "-")
 

@@ -9,7 +9,7 @@ use Rattle.fractions.specs.declared.Bounds.{Bounds}
 use Rattle.fractions.specs.Fraction.{_over_}
 use Rattle.fractions.specs.Rounding.{ceiling}
 use Rattle.lengths.specs.Units.{tenths, millimetres}
-use Rattle.temperatures.specs.Temperature.{offsetBinary, celsius}
+use Rattle.temperatures.specs.Temperature.{offsetBinary, tenthsCelsius}
 use Rattle.quadrature.specs.Figures.{stepBounds, logBounds}
 use Rattle.quadrature.specs.Cuttings.{lowerSum}
 use Rattle.annex_tables.specs.Annex.{annexEntry}
@@ -71,9 +71,9 @@ pub record Cylinder : Type 0 where
   pub at-20 : provided (decoded cylinder .line) (millimetres 20) ≡ bounds 64_145_256 64_145_354
   pub found : chosen (decoded cylinder) ≡ 2
   -- the checks, the bound and the answer
-  pub no-limit : lossLimit 1 (celsius 207) ≡ 0
-  pub surface-limit : surfaceLimit (celsius 70) ≡ celsius 500
-  pub bound : (ceiling (912_420_000_000 over 131_369_484_288) ≡ 7) × (surfaceBound (decoded cylinder) (bounds 64_145_256 64_145_354) ≡ celsius 77)
+  pub no-limit : lossLimit 1 (tenthsCelsius 207) ≡ 0
+  pub surface-limit : surfaceLimit (tenthsCelsius 70) ≡ tenthsCelsius 500
+  pub bound : (ceiling (912_420_000_000 over 131_369_484_288) ≡ 7) × (surfaceBound (decoded cylinder) (bounds 64_145_256 64_145_354) ≡ tenthsCelsius 77)
   pub answer : responseTo cylinder ≡ complete (0 ∷ 1 ∷ 0 ∷ 20 ∷ 3 ∷ 0 ∷ 0 ∷ 77 ∷ [])
 
 pub record Hotter : Type 0 where
@@ -84,10 +84,10 @@ pub record Hotter : Type 0 where
       58 ∷ 116 ∷ 93 ∷ 163 ∷ 116 ∷ 203 ∷ 140 ∷ 244 ∷ 163 ∷ 273 ∷ 186 ∷ 296 ∷ 209 ∷ 308 ∷ 227 ∷ 314 ∷ 244 ∷ 0 ∷ 262 ∷ 0 ∷ 279 ∷ 0 ∷ 296 ∷ 0 ∷
       314 ∷ 0 ∷ []
   pub row-1 : (place 1 1 ≡ 2) × (getD flatTable 2 0 ≡ 93)
-  pub loss-limit : lossLimit 1 (celsius 1_300) ≡ 930
+  pub loss-limit : lossLimit 1 (tenthsCelsius 1_300) ≡ 930
   pub loss-required : requiredOf (decoded hotter) (Loss 930) ≡ bounds 75_193_548 75_193_549
   pub surface-required : requiredOf (decoded hotter) (Surface 250) ≡ bounds 13_658_203 13_658_204
-  pub bound : surfaceBound (decoded hotter) (bounds 64_145_256 64_145_354) ≡ celsius 304
+  pub bound : surfaceBound (decoded hotter) (bounds 64_145_256 64_145_354) ≡ tenthsCelsius 304
   pub answer : responseTo hotter ≡ complete (0 ∷ 1 ∷ 0 ∷ 20 ∷ 1 ∷ 0 ∷ 1 ∷ 48 ∷ [])
 
 pub record Between : Type 0 where
@@ -109,7 +109,7 @@ pub record FlatWall : Type 0 where
   pub at-40 : provided (decoded flat .line) (millimetres 40) ≡ bounds 45_000_000 45_000_000
   pub loss-required : requiredOf (decoded flat) (Loss 930) ≡ bounds 47_311_827 47_311_828
   pub surface-required : requiredOf (decoded flat) (Surface 300) ≡ bounds 18_333_333 18_333_334
-  pub bound : surfaceBound (decoded flat) (bounds 55_000_000 55_000_000) ≡ celsius 300
+  pub bound : surfaceBound (decoded flat) (bounds 55_000_000 55_000_000) ≡ tenthsCelsius 300
   -- the rung above the open one of sheet G
   pub above-open : provided (decoded sheetG .line) (millimetres 10) .lower ≡ 13_439_380
   -- the exact equation: strip 100, cut in 2
@@ -123,14 +123,14 @@ pub record BetweenRows : Type 0 where
   pub places : (place 1 3 ≡ 2) × (place 2 3 ≡ 4) × (getD flatTable 4 0 ≡ 116)
   -- the rows of 100 and 150 °C, and the straight line between them at 130.0 and 129.9 °C
   pub rows :
-      let rows = neighbours (celsius 1_300) none table in
+      let rows = neighbours (tenthsCelsius 1_300) none table in
       (rows .below ≡ some (row 100 93 163)) × (rows .above ≡ some (row 150 116 203)) ×
       (limitOf 3 (row 100 93 163) ≡ 930) × (limitOf 3 (row 150 116 203) ≡ 1_160)
   pub line : (interpolated 930 1_160 500 300 ≡ 1_068) × (interpolated 930 1_160 500 299 ≡ 1_067)
-  pub limit : (lossLimit 3 (celsius 1_300) ≡ 1_068) × (lossLimit 1 (celsius 1_300) ≡ 930)
+  pub limit : (lossLimit 3 (tenthsCelsius 1_300) ≡ 1_068) × (lossLimit 1 (tenthsCelsius 1_300) ≡ 930)
   pub loss-required : requiredOf (decoded (wall 3)) (Loss 1_068) ≡ bounds 41_198_501 41_198_502
   pub surface-required : requiredOf (decoded (wall 3)) (Surface 300) ≡ bounds 12_611_063 12_611_064
-  pub bound : surfaceBound (decoded (wall 3)) (bounds 43_439_380 43_439_381) ≡ celsius 288
+  pub bound : surfaceBound (decoded (wall 3)) (bounds 43_439_380 43_439_381) ≡ tenthsCelsius 288
   -- services 3 and 1
   pub answer : responseTo (wall 3) ≡ complete (0 ∷ 2 ∷ 0 ∷ 40 ∷ 0 ∷ 0 ∷ 1 ∷ 32 ∷ [])
   pub answer-by-row : responseTo (wall 1) ≡ complete (0 ∷ 2 ∷ 0 ∷ 40 ∷ 1 ∷ 0 ∷ 1 ∷ 32 ∷ [])

@@ -11,7 +11,7 @@ use lib.Dec.{leb, eqb}
 use borrow.Author.Tests.{le-leb, lt-leb, ne-eqb}
 use borrow.Enum.Match.{AllBelow, each-below}
 use Rattle.temperatures.specs.declared.Temperature.{Temperature}
-use Rattle.temperatures.specs.Temperature.{zeroDegrees, celsius}
+use Rattle.temperatures.specs.Temperature.{zeroDegrees, tenthsCelsius}
 use Rattle.limits.specs.Limits.{Row, column, limitOf, lossLimit}
 use Rattle.limits.proofs.Rows.{nth, nth-at, row-present, row-indexed, Beyond, limitAt, limit-at, none-below}
 use Rattle.promises.specs.Limits.{Neighbouring, NoneAbove, Limits}
@@ -106,7 +106,7 @@ module _ (service last : ℕ) (printed : AllBelow 13 (λ n. n < last → 0 < lim
 none-seasonal : (n : ℕ) → n < 13 → 8 ≤ n → nth n .seasonal ≡ 0
 none-seasonal = each-below 13 (λ n. 8 ≤ n → nth n .seasonal ≡ 0) (omega arith)
 
-none-interpolated : NoneAbove 4 (celsius 4_000)
+none-interpolated : NoneAbove 4 (tenthsCelsius 4_000)
 none-interpolated t above =
     let from : 7 ≤ row t = omega arith in
     rw (limit-at 4 t (row t) (past t) (position t (omega arith)))

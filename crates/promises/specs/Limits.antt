@@ -4,7 +4,7 @@ use Prim.Native.Nat.{ℕ, suc, _+_, _*_, _≤_, _<_}
 use mathlib.Core.Path.{_≡_}
 use mathlib.Core.Option.{some}
 use Rattle.temperatures.specs.declared.Temperature.{Temperature}
-use Rattle.temperatures.specs.Temperature.{celsius}
+use Rattle.temperatures.specs.Temperature.{tenthsCelsius}
 use Rattle.limits.specs.Limits.{Row, rowAt, limitOf, lossLimit}
 
 -- "The row is the highest one not above t." (01)
@@ -19,11 +19,12 @@ pub record Neighbouring (service : ℕ) (low high : Row) : Type 0 where
   pub low-printed : 0 < limitOf service low
   pub high-printed : 0 < limitOf service high
 
--- a service has limits from 50.0 °C to a temperature, and none below 50.0 °C; none above a temperature
+-- a service has limits from 50.0 °C to a temperature, and none below 50.0 °C
 pub record LimitedTo (service : ℕ) (most : Temperature) : Type 0 where
-  pub printed : (t : Temperature) → celsius 500 .0 ≤ t .0 → t .0 ≤ most .0 → 0 < lossLimit service t
-  pub none-below : (t : Temperature) → t .0 < celsius 500 .0 → lossLimit service t ≡ 0
+  pub printed : (t : Temperature) → tenthsCelsius 500 .0 ≤ t .0 → t .0 ≤ most .0 → 0 < lossLimit service t
+  pub none-below : (t : Temperature) → t .0 < tenthsCelsius 500 .0 → lossLimit service t ≡ 0
 
+-- a service has none above a temperature
 abbrev pub NoneAbove : ℕ → Temperature → Type 0
 NoneAbove service most = (t : Temperature) → most .0 < t .0 → lossLimit service t ≡ 0
 
@@ -44,7 +45,7 @@ pub record Limits : Type 0 where
       (service : ℕ) (low high : Row) (t : Temperature) → Neighbouring service low high → low .temperature .0 ≤ t .0 → t .0 < high .temperature .0 →
       (limitOf service low ≤ lossLimit service t) × (lossLimit service t ≤ limitOf service high)
   -- "Below 50.0, or seasonal from 450.0, none is printed." (01) "Seasonal at 400.0 gives 314; above it none is printed."
-  pub year-round : LimitedTo 1 (celsius 6_500)
-  pub seasonal : LimitedTo 2 (celsius 4_499) × NoneAbove 2 (celsius 4_499)
-  pub year-round-interpolated : LimitedTo 3 (celsius 6_500)
-  pub seasonal-interpolated : LimitedTo 4 (celsius 4_000) × NoneAbove 4 (celsius 4_000)
+  pub year-round : LimitedTo 1 (tenthsCelsius 6_500)
+  pub seasonal : LimitedTo 2 (tenthsCelsius 4_499) × NoneAbove 2 (tenthsCelsius 4_499)
+  pub year-round-interpolated : LimitedTo 3 (tenthsCelsius 6_500)
+  pub seasonal-interpolated : LimitedTo 4 (tenthsCelsius 4_000) × NoneAbove 4 (tenthsCelsius 4_000)

@@ -18,13 +18,13 @@ AboveOne g = g .den < g .num
 pub record Shares : Type 0 where
   -- "once rounded down and once up": the exact growth lies between the two figures
   pub growth-enclosed : (i n : ℕ) → (roundedGrowth floor i n ≼ exactGrowth i n) × (exactGrowth i n ≼ roundedGrowth ceiling i n)
-  -- from one year up each of the three growths is above 1, so that no share divides by 0
+  -- from a rate and a term of 1 up each of the three growths is above 1, so that no share divides by 0
   pub grown :
       (i n : ℕ) → 1 ≤ i → 1 ≤ n →
       AboveOne (roundedGrowth floor i n) × AboveOne (exactGrowth i n) × AboveOne (roundedGrowth ceiling i n)
   -- "S falls as growth rises": of any two growths above 1
   pub share-falls : (i : ℕ) (g h : Fraction) → 0 < i → AboveOne g → AboveOne h → g ≺ h → share i h ≺ share i g
-  -- "so the two growth figures enclose it"
+  -- "so the two growth figures enclose it", from a rate and a term of 1 up
   pub share-enclosed :
       (i n : ℕ) → 1 ≤ i → 1 ≤ n →
       (share i (roundedGrowth ceiling i n) ≼ share i (exactGrowth i n)) × (share i (exactGrowth i n) ≼ share i (roundedGrowth floor i n))

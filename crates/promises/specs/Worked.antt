@@ -3,7 +3,7 @@
 use mathlib.Core.Path.{_≡_}
 use mathlib.Core.List.{[], _∷_}
 use Rattle.fractions.specs.Rounding.{floor, ceiling}
-use Rattle.temperatures.specs.Temperature.{celsius}
+use Rattle.temperatures.specs.Temperature.{tenthsCelsius}
 use Rattle.refusals.specs.Response.{refused, complete}
 use Rattle.amortization.specs.Share.{shareBy}
 use Rattle.amortization.specs.Refusals.{shareResponse}
@@ -26,14 +26,14 @@ pub record WorkedShares : Type 0 where
 
 pub record WorkedLimits : Type 0 where
   -- "At 130.0 °C year-round it is 106.8."
-  pub year-round-130 : lossLimit 3 (celsius 1_300) ≡ 1_068
+  pub year-round-130 : lossLimit 3 (tenthsCelsius 1_300) ≡ 1_068
   -- "rounded down", from 106.754 and 186.92
-  pub year-round-129-9 : lossLimit 3 (celsius 1_299) ≡ 1_067
-  pub seasonal-129-9 : lossLimit 4 (celsius 1_299) ≡ 1_869
+  pub year-round-129-9 : lossLimit 3 (tenthsCelsius 1_299) ≡ 1_067
+  pub seasonal-129-9 : lossLimit 4 (tenthsCelsius 1_299) ≡ 1_869
   -- "Services 1 and 2 keep the row below"
-  pub rows-at-130 : (lossLimit 1 (celsius 1_300) ≡ 930) × (lossLimit 2 (celsius 1_300) ≡ 1_630)
+  pub rows-at-130 : (lossLimit 1 (tenthsCelsius 1_300) ≡ 930) × (lossLimit 2 (tenthsCelsius 1_300) ≡ 1_630)
   -- "Seasonal at 400.0 gives 314; above it none is printed."
-  pub seasonal-400 : lossLimit 4 (celsius 4_000) ≡ 3_140
-  pub seasonal-400-1 : lossLimit 4 (celsius 4_001) ≡ 0
+  pub seasonal-400 : lossLimit 4 (tenthsCelsius 4_000) ≡ 3_140
+  pub seasonal-400-1 : lossLimit 4 (tenthsCelsius 4_001) ≡ 0
   -- the last row
-  pub year-round-650 : lossLimit 3 (celsius 6_500) ≡ 3_140
+  pub year-round-650 : lossLimit 3 (tenthsCelsius 6_500) ≡ 3_140

@@ -22,8 +22,8 @@ pub record Field : Type 0 where
   pub most : ℕ
 
 -- "12: goal or service code unknown."
-abbrev pub code : ℕ → ℕ → ℕ → ℕ → Field
-code o x l m = record { refusal = numberOf UnknownCode; offset = o; value = x; least = l; most = m }
+abbrev pub coded : ℕ → ℕ → ℕ → ℕ → Field
+coded o x l m = record { refusal = numberOf UnknownCode; offset = o; value = x; least = l; most = m }
 
 -- "13: a field outside its range."
 abbrev pub ranged : ℕ → ℕ → ℕ → ℕ → Field
@@ -35,7 +35,7 @@ unused o x = record { refusal = numberOf NotZero; offset = o; value = x; least =
 
 -- "1 economy, 2 loss, 3 surface", "1 year-round, 2 seasonal", and "service 3 (year-round) or 4 (seasonal)" (02, N2)
 abbrev pub codes : Sheet → List Field
-codes s = code 0 (s .code) 1 3 ∷ code 1 (s .service) 1 4 ∷ []
+codes s = coded 0 (s .code) 1 3 ∷ coded 1 (s .service) 1 4 ∷ []
 
 -- D, t, ta, L and α
 abbrev pub lineFields : Sheet → List Field

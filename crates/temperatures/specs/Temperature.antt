@@ -20,5 +20,5 @@ abbrev pub zeroDegrees : ℕ
 zeroDegrees = offsetBinary 0
 
 -- a temperature from 0.0 °C up, in 0.1 °C
-abbrev pub celsius : ℕ → Temperature
-celsius t = record { 0 = zeroDegrees + t }
+abbrev pub tenthsCelsius : ℕ → Temperature
+tenthsCelsius t = record { 0 = zeroDegrees + t }

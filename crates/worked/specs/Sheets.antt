@@ -7,7 +7,7 @@ use lib.ListN.{take}
 use Rattle.fractions.specs.declared.Bounds.{Bounds}
 use Rattle.lengths.specs.declared.units.Diameter.{Diameter}
 use Rattle.lengths.specs.Units.{millimetres}
-use Rattle.temperatures.specs.Temperature.{celsius}
+use Rattle.temperatures.specs.Temperature.{tenthsCelsius}
 use Rattle.quadrature.specs.Figures.{lowerStep, upperStep, lowerLog, upperLog}
 use Rattle.provision.specs.Provided.{provided}
 use Rattle.big_endian.specs.Bytes.{bigEndian, bytesOf}
@@ -63,6 +63,6 @@ pub record Worked : Type 0 where
       (responseTo (sheetF 3 1_300) ≡ refused 16) ×
       ((sheet : List ℕ) → let s = decoded sheet in s .code ≡ 3 → surfaceAim s ≡ s .temperature → NoneHolds (take 5 (fieldCases sheet)) → responseTo sheet ≡ refused 16)
   -- "P10: year-round, 299.9 °C: 163. P11: seasonal, 450.0: none printed. P12: ta 27.0: 50.0; ta 27.1: 52.1."
-  pub p10 : lossLimit 1 (celsius 2_999) ≡ 1_630
-  pub p11 : lossLimit 2 (celsius 4_500) ≡ 0
-  pub p12 : (surfaceLimit (celsius 270) ≡ celsius 500) × (surfaceLimit (celsius 271) ≡ celsius 521)
+  pub p10 : lossLimit 1 (tenthsCelsius 2_999) ≡ 1_630
+  pub p11 : lossLimit 2 (tenthsCelsius 4_500) ≡ 0
+  pub p12 : (surfaceLimit (tenthsCelsius 270) ≡ tenthsCelsius 500) × (surfaceLimit (tenthsCelsius 271) ≡ tenthsCelsius 521)

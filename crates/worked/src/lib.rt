@@ -1,1 +1,1 @@
-// The sheets and the book that are worked by hand: no code, only facts about the definitions (specs/).
+// The sheets, the listing and the book that are worked by hand: no code, only facts about the definitions (specs/).

@@ -7,7 +7,7 @@ use native.Mathlib.Omega.{arith}
 use lib.Dec.{leb}
 use borrow.Author.Tests.{le-leb, lt-leb, leb-true}
 use Rattle.temperatures.specs.declared.Temperature.{Temperature}
-use Rattle.temperatures.specs.Temperature.{celsius}
+use Rattle.temperatures.specs.Temperature.{tenthsCelsius}
 use Rattle.requirement.specs.declared.Goal.the-variants.{Surface}
 use Rattle.verdict.specs.Verdict.{judged}
 use Rattle.limits.specs.Limits.{surfaceLimit}
@@ -19,10 +19,10 @@ use Rattle.checks.proofs.surface_check.Tie as tie
 
 -- the limit is above the air's temperature
 limit-above : (ta : Temperature) → ta .0 < surfaceLimit ta .0
-limit-above ta = go (leb (ta .0) (celsius 270 .0)) refl
+limit-above ta = go (leb (ta .0) (tenthsCelsius 270 .0)) refl
   where
-    go : (b : Bool) → leb (ta .0) (celsius 270 .0) ≡ b → ta .0 < cond b (celsius 500) (record { 0 = ta .0 + 250 }) .0
-    go true e = omega (arith, leb-true (ta .0) (celsius 270 .0) e)
+    go : (b : Bool) → leb (ta .0) (tenthsCelsius 270 .0) ≡ b → ta .0 < cond b (tenthsCelsius 500) (record { 0 = ta .0 + 250 }) .0
+    go true e = omega (arith, leb-true (ta .0) (tenthsCelsius 270 .0) e)
     go false e = omega arith
 
 -- after the call: the limit
