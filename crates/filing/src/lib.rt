@@ -1,12 +1,10 @@
 // Filing a sheet with its answer.
-mod entry;
-
 ghost use mathlib.Core.Path.{_≡_};
 ghost use Rattle.outcome.specs.Outcome.{response};
 ghost use Rattle.layout.specs.Layout.{standard};
 ghost use Rattle.layout.specs.SoundBook.{SoundBook};
 ghost use Rattle.book.specs.Refusals.{filing, filed};
-use crate::entry::enter;
+use entry::enter;
 use layout::Examination;
 use layout::Layout;
 use layout::Sizes;
@@ -38,6 +36,9 @@ fn file_in(layout: Layout, book: &mut [u8], sizes: Sizes, sheet: &[u8]) -> Outco
     }
     match work_out(sheet) {
         Outcome::Refused(why) => Outcome::Refused(why),
-        Outcome::Answered(answer) => enter(layout, book, sizes, sheet, answer),
+        Outcome::Answered(answer) => {
+            enter(layout, book, sizes, sheet, answer);
+            Outcome::Answered(answer)
+        }
     }
 }

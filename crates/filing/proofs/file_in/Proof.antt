@@ -37,7 +37,7 @@ returns-3 c =
     let k = c .before .before .before .before .before .before .before .before in
     let start = k .before .before .before .before in
     let same = completed (cases (start .args .sheet .now)) (answer (start .args .sheet .now)) _ (sym told) .1 in
-    rw (filing-room (start .pre .0) (start .args .sheet .now) (k .if1 .left), ← told, same) (c .before .before .enter .ensures)
+    rw (filing-room (start .pre .0) (start .args .sheet .now) (k .if1 .left), ← told, same) (refl, c .before .before .enter .ensures)
 
 pub file-in-spec : {M : Type 1} → statement M
 file-in-spec = tie.close (tie.spec returns (λ c κs. search needs) (λ c. search needs) (λ c. search needs) enter-requires returns-2 (λ c. search needs) returns-3)

@@ -2,33 +2,22 @@
 ghost use mathlib.Core.Path.{_≡_};
 ghost use Prim.Native.Nat.{_<_};
 ghost use lib.ListN.{length};
-ghost use Rattle.refusals.specs.Response.{complete};
 ghost use Rattle.answer.specs.Answer.{encoded};
-ghost use Rattle.outcome.specs.Outcome.{response};
 ghost use Rattle.layout.specs.SoundBook.{SoundBook};
 ghost use Rattle.book.specs.Book.{withEntry};
 use answer::Answer;
 use big_endian::write_number;
 use layout::Layout;
 use layout::Sizes;
-use outcome::Outcome;
 use overlay::put;
 
 // Files a sheet with its answer where there is room.
-pub(crate) fn enter(
-    layout: Layout,
-    book: &mut [u8],
-    sizes: Sizes,
-    sheet: &[u8],
-    answer: Answer,
-) -> Outcome
+pub fn enter(layout: Layout, book: &mut [u8], sizes: Sizes, sheet: &[u8], answer: Answer)
     requires { ⌜ SoundBook layout (now book) sizes ⌝ }
     requires { ⌜ (sizes .count < sizes .capacity) × (length (now sheet) ≡ layout .sheet) ⌝ }
-    ensures { λ r. ⌜ response r ≡ complete (encoded answer) ⌝ }
     ensures { λ _. ⌜ now (book .exit) ≡ withEntry layout (now (book .entry)) (now (sheet .entry)) (encoded answer) ⌝ }
 {
     store(layout, book, sizes, sheet, answer);
-    Outcome::Answered(answer)
 }
 
 // Writes slot n of both arrays and raises the count by one.

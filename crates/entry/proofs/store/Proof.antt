@@ -3,8 +3,8 @@
 use native.Mathlib.Nat.{mul-le-mul-left}
 use native.Mathlib.Omega.{arith}
 use borrow.Author.Needs.{needs}
-use Rattle.filing.proofs.entry.store.Statement.{statement}
-use Rattle.filing.proofs.entry.store.Tie as tie
+use Rattle.entry.proofs.store.Statement.{statement}
+use Rattle.entry.proofs.store.Tie as tie
 
 put-requires : tie.Need-put-requires
 put-requires c κs = let start = c .before .before .before .before .before .before in omega (arith, mul-le-mul-left (start .args .layout .sheet) (start .pre .1 .0))
