@@ -4,14 +4,13 @@
 use mathlib.Core.Path.{_≡_, _∙_, ap}
 use mathlib.Core.Bool.{Bool, true, false, _&&_}
 use mathlib.Core.List.{List, [], _∷_, flatten}
-use Prim.Native.Nat.{ℕ, zero, suc, _+_, _-_, _*_, _/_, _%_, _<_}
-use native.Mathlib.Nat.{add-assoc, zero-add, mul-suc, add-sub-cancel-left, le-of-suc-le-suc, not-suc-le-zero, div-add-mod}
+use Prim.Native.Nat.{ℕ, zero, suc, _+_, _-_, _*_, _<_}
+use native.Mathlib.Nat.{add-assoc, zero-add, mul-suc, add-sub-cancel-left, le-of-suc-le-suc, not-suc-le-zero}
 use native.Mathlib.Omega.{arith}
 use lib.Dec.{T, eqb, eqb→eq}
 use lib.ListN.{length, getD, length-append, List·getD-append}
 use lib.Seq.{getD-append-add}
 use Rattle.quadrature.specs.Sums.{summed, total}
-use Rattle.annex_tables.specs.Annex.{entries}
 use Rattle.quadrature.proofs.Sums.{total-join}
 
 both : (a b : Bool) → T (a && b) → T a × T b
@@ -32,9 +31,9 @@ abbrev running : (ℕ → ℕ) → List ℕ → Bool
 running f [] = false
 running f (x ∷ xs) = eqb x 0 && stepwise f 100 0 xs
 
--- the rule of a table: 37 rows of 43 entries, 1,591 in all, which are running sums
+-- the rule of a table: 43 rows of 37 entries, 1,591 in all, which are running sums
 abbrev pub rule : (ℕ → ℕ) → List (List ℕ) → Bool
-rule f t = eqb (length t) 37 && (even 43 t && running f (flatten t))
+rule f t = eqb (length t) 43 && (even 37 t && running f (flatten t))
 
 module _ (c : ℕ) (r : List ℕ) (rs : List (List ℕ)) (e : T (even c (r ∷ rs))) where
   size : length r ≡ c
@@ -76,14 +75,13 @@ run f (x ∷ xs) t zero h = eqb→eq x 0 (both (eqb x 0) (stepwise f 100 0 xs) t
 run f (x ∷ xs) t (suc k) h =
     grown f xs 100 0 (both (eqb x 0) (stepwise f 100 0 xs) t .1) k (le-of-suc-le-suc h) ∙ rw (zero-add (total f 100 (10 * suc k)), add-sub-cancel-left 100 (10 * suc k))
 
--- so at each place of a table of the rule stands the sum of the steps from 10.0 mm on
-pub ruled-entry : (f : ℕ → ℕ) (t : List (List ℕ)) → T (rule f t) → (k : ℕ) → k < entries → getD (getD t (k / 43) []) (k % 43) 0 ≡ total f 100 (100 + 10 * k - 100)
-ruled-entry f t r k lt =
-    let sized = both (eqb (length t) 37) (even 43 t && running f (flatten t)) r in
-    let test = both (even 43 t) (running f (flatten t)) (sized .1) in
-    let rows : length t ≡ 37 = eqb→eq (length t) 37 (sized .0) in
-    row-at 43 t (test .0) (k / 43) (k % 43) (omega arith) (omega arith)
-    ∙ rw (div-add-mod k 43) (run f (flatten t) (test .1) k (omega (arith, flat-length 43 t (test .0))))
+-- so at place j of row i of a table of the rule stands the sum of the steps from 10.0 mm on
+pub ruled-entry : (f : ℕ → ℕ) (t : List (List ℕ)) → T (rule f t) → (i j : ℕ) → i < 43 → j < 37 → getD (getD t i []) j 0 ≡ total f 100 (100 + 10 * (37 * i + j) - 100)
+ruled-entry f t r i j row place =
+    let sized = both (eqb (length t) 43) (even 37 t && running f (flatten t)) r in
+    let test = both (even 37 t) (running f (flatten t)) (sized .1) in
+    let rows : length t ≡ 43 = eqb→eq (length t) 43 (sized .0) in
+    row-at 37 t (test .0) i j (omega arith) place ∙ run f (flatten t) (test .1) (37 * i + j) (omega (arith, flat-length 37 t (test .0)))
 
 -- What the loop over the rows keeps, n rows passed: the table is one of the rule, and row i is held once it was passed.
 pub record Passed (f : ℕ → ℕ) (t : List (List ℕ)) (i n : ℕ) (row : List ℕ) : Type 0 where
@@ -100,6 +98,6 @@ module _ {f : ℕ → ℕ} {t : List (List ℕ)} {i : ℕ} where
   pub passed-other : {n : ℕ} {row : List ℕ} → Passed f t i n row → ¬ (n ≡ i) → Passed f t i (n + 1) row
   passed-other p other = record { ruled = p .ruled; held = λ lt. p .held (omega arith) }
 
--- with all rows passed, place k % 43 of the row held is entry k
-pub held-entry : {f : ℕ → ℕ} {t : List (List ℕ)} {n k : ℕ} {row : List ℕ} → Passed f t (k / 43) n row → n ≡ 37 → k < entries → getD row (k % 43) 0 ≡ total f 100 (100 + 10 * k - 100)
-held-entry {f} {t} {n} {k} p all lt = ap (λ (r : List ℕ). getD r (k % 43) 0) (p .held (omega arith)) ∙ ruled-entry f t (p .ruled) k lt
+-- with all rows passed, place j of the row held is that sum
+pub held-entry : {f : ℕ → ℕ} {t : List (List ℕ)} {n i j : ℕ} {row : List ℕ} → Passed f t i n row → n ≡ 43 → i < 43 → j < 37 → getD row j 0 ≡ total f 100 (100 + 10 * (37 * i + j) - 100)
+held-entry {f} {t} {n} {i} {j} p all lt place = ap (λ (r : List ℕ). getD r j 0) (p .held (omega arith)) ∙ ruled-entry f t (p .ruled) i j lt place

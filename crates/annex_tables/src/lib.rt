@@ -15,8 +15,10 @@ pub fn entry(k: usize) -> Bounds
     requires { ⌜ k < entries ⌝ }
     ensures { λ r. ⌜ r ≡ annexEntry k ⌝ }
 {
+    let i = k / 37;
+    let j = k % 37;
     Bounds {
-        lower: lower::entry(k),
-        upper: upper::entry(k),
+        lower: lower::entry(i, j),
+        upper: upper::entry(i, j),
     }
 }

@@ -1,11 +1,14 @@
 -- Sums of steps from one diameter to another: one step more, and in two parts; and that they fit 64 bits. Each law is over the figures f of a step.
 -- Assumes nothing.
-use mathlib.Core.Path.{_≡_}
+use mathlib.Core.Path.{_≡_, sym}
 use Prim.Native.Nat.{ℕ, zero, suc, _+_, _-_, _*_, _^_, _≤_, _<_}
-use native.Mathlib.Nat.{add-sub-of-le, le-trans, div-le-of-le-mul, mul-le-mul-left, mul-le-mul-right}
+use native.Mathlib.Nat.{sub-self, add-sub-of-le, le-trans, div-le-of-le-mul, mul-le-mul-left, mul-le-mul-right}
 use native.Mathlib.Omega.{arith}
+use Rattle.fractions.specs.declared.Bounds.{Bounds}
+use Rattle.lengths.specs.declared.units.Diameter.{Diameter}
+use Rattle.lengths.specs.Units.{tenths}
 use Rattle.quadrature.specs.Sums.{summed, total}
-use Rattle.quadrature.specs.Figures.{tera, lowerStep, upperStep}
+use Rattle.quadrature.specs.Figures.{tera, lowerStep, upperStep, logBounds}
 use Rattle.quadrature.proofs.Sums.{total-join}
 
 one-more : (f : ℕ → ℕ) {d i : ℕ} → d ≤ i → total f d (i + 1 - d) ≡ total f d (i - d) + f i
@@ -14,18 +17,14 @@ one-more f {d} {i} le =
     let count : i + 1 - d ≡ suc (i - d) = omega arith in
     rw (count, add-sub-of-le le)
 
+pub none : (f : ℕ → ℕ) (d : ℕ) → 0 ≡ total f d (d - d)
+unfolding summed
+none f d = rw (sub-self d)
+
 split : (f : ℕ → ℕ) {c d e : ℕ} → c ≤ d → d ≤ e → total f c (e - c) ≡ total f c (d - c) + total f d (e - d)
 split f {c} {d} {e} le le′ =
     let count : e - c ≡ (d - c) + (e - d) = omega arith in
     rw (count, total-join f c (d - c) (e - d), add-sub-of-le le)
-
--- the sums a to d and b to e leave the sum from d to e
-pub record Difference (f : ℕ → ℕ) (d e a b : ℕ) : Type 0 where
-  pub ordered : a ≤ b
-  pub rest : b - a ≡ total f d (e - d)
-
-pub difference : (f : ℕ → ℕ) {c d e a b : ℕ} → c ≤ d → d ≤ e → a ≡ total f c (d - c) → b ≡ total f c (e - c) → Difference f d e a b
-difference f le le′ inner outer = omega (arith, split f le le′)
 
 -- No step from 10.0 mm on is above 10¹⁰, so the logarithm to e is at most e × 10¹⁰.
 abbrev pub Small : (ℕ → ℕ) → Type 0
@@ -58,3 +57,17 @@ pub next : (f : ℕ → ℕ) → Small f → {d i s x : ℕ} → 100 ≤ d → d
 next f small {d} {i} from le lt sum step =
     let more = one-more f le in
     omega (arith, log-small f small {d = d} (i + 1) from)
+
+-- The logarithms p from 10.0 mm to d, q from d to e, and r from 10.0 mm to e, which fits.
+pub record Joined (p q r : Bounds) : Type 0 where
+  pub lower : p .lower + q .lower ≡ r .lower
+  pub upper : p .upper + q .upper ≡ r .upper
+  pub lower-fits : r .lower < 2 ^ 64
+  pub upper-fits : r .upper < 2 ^ 64
+
+pub joined : {d e : Diameter} {p q r : Bounds} → 100 ≤ d .0 → d .0 ≤ e .0 → e .0 ≤ 16000 → p ≡ logBounds (tenths 100) d → q ≡ logBounds d e → r ≡ logBounds (tenths 100) e → Joined p q r
+joined {d} {e} from le to first second whole =
+    let lower-small-enough = log-small lowerStep lower-small {d = 100} (e .0) (omega arith) in
+    let upper-small-enough = log-small upperStep upper-small {d = 100} (e .0) (omega arith) in
+    rw (first, second, whole)
+    record { lower = sym (split lowerStep from le); upper = sym (split upperStep from le); lower-fits = omega arith; upper-fits = omega arith }

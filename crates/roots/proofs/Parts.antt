@@ -63,7 +63,7 @@ pub record FirstPart (k n d u : ℕ) : Type 0 where
 pub product-le : {x y : ℕ} (a b : ℕ) → x ≤ a → y ≤ b → x * y ≤ a * b
 product-le a b h h′ = mul-le-mul h h′
 
-pub first-part : (k n d u : ℕ) → 0 < k → k < 4096 → 0 < d → u * (2 * 0 + u) ≤ n / d → n / d < (u + 1) * (2 * 0 + (u + 1)) → u < 2 ^ 32 → FirstPart k n d u
+pub first-part : (k n d u : ℕ) → 0 < k → k < 4096 → 0 < d → u * u ≤ n / d → n / d < (u + 1) * (u + 1) → u < 2 ^ 32 → FirstPart k n d u
 first-part k n d u some small pos low next u-small =
     let most : n / d - u * u ≤ 2 * u = omega arith in
     let times : k * u ≤ 2 ^ 12 * 2 ^ 32 = product-le (2 ^ 12) (2 ^ 32) (omega arith) (omega arith) in

@@ -6,6 +6,7 @@ use crate::plain::{self, Goal, Refusal, Shape, Sheet};
 /// What the spreadsheet prints for a sheet.
 #[derive(Clone, Copy, Debug, PartialEq, Eq)]
 pub struct Estimate {
+    pub shape: Shape,
     /// Thickness in mm.
     pub thickness: u16,
     /// The answer's codes, without "too close".
@@ -133,6 +134,7 @@ pub fn estimate(sheet: &[u8]) -> Result<Option<Estimate>, Refusal> {
         .map(|rung| (rung, case.provided(rung)))
         .find(|&(_, provided)| provided >= required);
     Ok(sufficient.map(|(thickness, provided)| Estimate {
+        shape: case.shape,
         thickness,
         loss_check: loss_check(&sheet, &case, provided),
         surface_check: surface_check(&sheet, &case, provided),

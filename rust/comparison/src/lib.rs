@@ -2,6 +2,7 @@
 //! proved library is compared with them.
 
 pub mod both;
+pub mod cpu;
 pub mod float;
 pub mod plain;
 pub mod sheets;

@@ -15,19 +15,19 @@ mul-part c =
     let rest = mod-lt (a .n) (c .pre .3) in
     omega (arith, product-le {x = a .k * a .k} {y = a .n % a .d} (2 ^ 12 * 2 ^ 12) (2 ^ 30) (product-le (2 ^ 12) (2 ^ 12) (omega arith) (omega arith)) (omega arith))
 
--- what the first call of `increment` gives, and the second
-part-1 : (c : tie.After-increment) → FirstPart (c .before .args .k) (c .before .args .n) (c .before .args .d) (c .increment .result)
+-- what the calls of `whole_root` and `increment` give
+part-1 : (c : tie.After-whole-root) → FirstPart (c .before .args .k) (c .before .args .n) (c .before .args .d) (c .whole-root .result)
 part-1 c =
     let a = c .before .args in
     let pre = c .before .pre in
-    let got = c .increment .ensures in
-    first-part (a .k) (a .n) (a .d) (c .increment .result) (pre .0) (pre .1) (pre .3) (got .0) (got .1) (got .2)
+    let got = c .whole-root .ensures in
+    first-part (a .k) (a .n) (a .d) (c .whole-root .result) (pre .0) (pre .1) (pre .3) (got .0) (got .1) (got .2)
 
-part-2 : (c : tie.After-increment2) → BothParts (c .before .before .args .k) (c .before .before .args .n) (c .before .before .args .d) (c .before .increment .result) (c .increment2 .result)
+part-2 : (c : tie.After-increment) → BothParts (c .before .before .args .k) (c .before .before .args .n) (c .before .before .args .d) (c .before .whole-root .result) (c .increment .result)
 part-2 c =
     let a = c .before .before .args in
-    let got = c .increment2 .ensures in
-    both-parts (a .k) (a .n) (a .d) (c .before .increment .result) (c .increment2 .result) (c .before .before .pre .3) (part-1 (c .before) .low) (got .0) (got .1)
+    let got = c .increment .ensures in
+    both-parts (a .k) (a .n) (a .d) (c .before .whole-root .result) (c .increment .result) (c .before .before .pre .3) (part-1 (c .before) .low) (got .0) (got .1)
 
 add-left-2 : tie.Need-add-left-2
 add-left-2 c =

@@ -1,0 +1,75 @@
+//! What the floating-point listing program prints.
+
+use comparison::plain::{LINE_OFFSET, SHEET_LENGTH};
+use comparison::sheets::{put, Draft};
+use std::io::Write;
+use std::process::{Command, Stdio};
+use std::thread;
+
+const HEADER: &str = "line shape mm loss surface upto\n";
+
+fn listing(sheets: Vec<u8>) -> String {
+    let mut program = Command::new(env!("CARGO_BIN_EXE_float_listing"))
+        .stdin(Stdio::piped())
+        .stdout(Stdio::piped())
+        .spawn()
+        .expect("the program starts");
+    let mut input = program.stdin.take().expect("a piped input");
+    let writer = thread::spawn(move || input.write_all(&sheets));
+    let run = program.wait_with_output().expect("the program ends");
+    writer.join().unwrap().expect("the program reads it all");
+    assert!(run.status.success());
+    String::from_utf8(run.stdout).expect("text")
+}
+
+/// A flat wall 20.0 °C above the air, whose loss is to be 80.0 W/m²: need is
+/// 10 mm, have 5 and 15 mm at the first rungs, and the surface is at most
+/// 6.7 °C above the air.
+fn wall(line: i32, air: i32) -> Draft {
+    let mut draft = [0; SHEET_LENGTH];
+    draft[..2].copy_from_slice(&[2, 1]);
+    let fields = [line, 12_000, air + 200, air, 400, 800, 0, 0, 0, 0, 800];
+    for (place, value) in fields.into_iter().enumerate() {
+        put(&mut draft, LINE_OFFSET + 2 * place, value);
+    }
+    draft
+}
+
+/// Too small an aim for 300 mm: have 305 mm, need 400 mm.
+fn beyond_the_ladder(line: i32) -> Draft {
+    let mut draft = wall(line, 0);
+    put(&mut draft, SHEET_LENGTH - 2, 20);
+    draft
+}
+
+#[test]
+fn the_header_stands_alone_for_empty_input() {
+    assert_eq!(listing(Vec::new()), HEADER);
+}
+
+#[test]
+fn answers_have_a_bound_with_its_sign() {
+    let sheets = [wall(0, 200), wall(8, -200), wall(65_535, -72)].concat();
+    let lines = "0 flat 10 none within 26.7\n\
+                 8 flat 10 none within -13.3\n\
+                 65535 flat 10 none within -0.5\n";
+    assert_eq!(listing(sheets), HEADER.to_owned() + lines);
+}
+
+#[test]
+fn refused_sheets_and_a_short_piece_have_their_numbers() {
+    let mut unknown = wall(3, 0);
+    unknown[0] = 9;
+    let sheets = [&unknown[..], &beyond_the_ladder(4), &unknown[1..]].concat();
+    let lines = "3 refused 12\n4 refused 17\n- refused 11\n";
+    assert_eq!(listing(sheets), HEADER.to_owned() + lines);
+}
+
+/// More sheets than a block or a pipe holds, and one byte.
+#[test]
+fn blocks_join() {
+    let mut sheets = wall(1, 0).repeat(5_000);
+    sheets.push(1);
+    let lines = "1 flat 10 none within 6.7\n".repeat(5_000) + "- refused 11\n";
+    assert_eq!(listing(sheets), HEADER.to_owned() + &lines);
+}
