@@ -40,13 +40,13 @@ fn likely_thickness(p: Provision, rest: u64) -> u64
     }
 }
 
-// The same around a pipe of diameter d. With z = rest / d, the outer diameter over d is about 1 + z (1 + 0.376 z + 0.0044 z²) / (1 + 0.783 z + 0.0215 z²):
-// within 1.7 per cent of the thickness, as far as the ladder goes.
+// The same around a pipe of diameter d. With z = rest / d, the outer diameter is about d (1 + z factor / divisor), where the factor is
+// 1 + 0.376 z + 0.0044 z² and the divisor 1 + 0.783 z + 0.0215 z²: up to 300 mm within 1.7 per cent of the thickness.
 fn around_pipe(d: Diameter, rest: u64) -> u64
     requires { ⌜ (100 ≤ d .0) × (rest < 4_000_000) ⌝ }
     ensures { λ r. ⌜ r ≤ rest ⌝ }
 {
-    let z = rest / d.0; // in hundredths
+    let z = rest / d.0; // in hundredths: d counts 100 micrometres
     let factor = 100_000_000 + z * (376_000 + 44 * z);
     let divisor = 100_000_000 + z * (783_000 + 215 * z);
     rest * factor / (2 * divisor)

@@ -5,8 +5,8 @@ ghost use Rattle.fractions.specs.Fraction.{_over_};
 ghost use Rattle.roots.specs.Root.{rootBounds};
 use fractions::Bounds;
 
-// The largest v with (a + v)² at most a² + gap; it is below limit. Newton's rule from above: as long as (a + v)² is too much, v falls by what
-// is too much over 2 (a + v), rounded up.
+// The largest v with (a + v)² at most a² + gap; it is below limit. Newton's rule from above: as long as (a + v)² is too much, v falls by
+// what is too much over 2 (a + v), rounded up.
 fn increment(a: u64, gap: u64, limit: u64) -> u64
     requires { ⌜ (gap < limit * (2 * a + limit)) × (limit * (2 * a + limit) ≤ 2 ^ 64) × (a < 2 ^ 62) × (limit < 2 ^ 62) ⌝ }
     ensures { λ v. ⌜ (v * (2 * a + v) ≤ gap) × (gap < (v + 1) * (2 * a + (v + 1))) × (v < limit) ⌝ }
