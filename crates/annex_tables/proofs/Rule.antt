@@ -67,16 +67,20 @@ grown f (x ∷ xs) d p t (suc k) h =
     let count : 10 * suc (suc k) ≡ 10 + 10 * suc k = omega arith in
     grown f xs (d + 10) x (test .1) k (le-of-suc-le-suc h) ∙ rw (first, count, total-join f d 10 (10 * suc k), add-assoc p)
 
--- entry k is the sum of the 10 k steps from 100 on
-run : (f : ℕ → ℕ) (xs : List ℕ) → T (running f xs) → (k : ℕ) → k < length xs → getD xs k 0 ≡ total f 100 (100 + 10 * k - 100)
+-- the sum of the 10 k steps from 10.0 mm on
+abbrev sum : (ℕ → ℕ) → ℕ → ℕ
+sum f k = total f 100 (100 + 10 * k - 100)
+
+-- entry k is that sum
+run : (f : ℕ → ℕ) (xs : List ℕ) → T (running f xs) → (k : ℕ) → k < length xs → getD xs k 0 ≡ sum f k
 unfolding summed
 run f [] t k h = absurd t
 run f (x ∷ xs) t zero h = eqb→eq x 0 (both (eqb x 0) (stepwise f 100 0 xs) t .0)
 run f (x ∷ xs) t (suc k) h =
     grown f xs 100 0 (both (eqb x 0) (stepwise f 100 0 xs) t .1) k (le-of-suc-le-suc h) ∙ rw (zero-add (total f 100 (10 * suc k)), add-sub-cancel-left 100 (10 * suc k))
 
--- so at place j of row i of a table of the rule stands the sum of the steps from 10.0 mm on
-pub ruled-entry : (f : ℕ → ℕ) (t : List (List ℕ)) → T (rule f t) → (i j : ℕ) → i < 43 → j < 37 → getD (getD t i []) j 0 ≡ total f 100 (100 + 10 * (37 * i + j) - 100)
+-- so at place j of row i of a table of the rule stands the sum of entry 37 i + j
+pub ruled-entry : (f : ℕ → ℕ) (t : List (List ℕ)) → T (rule f t) → (i j : ℕ) → i < 43 → j < 37 → getD (getD t i []) j 0 ≡ sum f (37 * i + j)
 ruled-entry f t r i j row place =
     let sized = both (eqb (length t) 43) (even 37 t && running f (flatten t)) r in
     let test = both (even 37 t) (running f (flatten t)) (sized .1) in
@@ -99,5 +103,5 @@ module _ {f : ℕ → ℕ} {t : List (List ℕ)} {i : ℕ} where
   passed-other p other = record { ruled = p .ruled; held = λ lt. p .held (omega arith) }
 
 -- with all rows passed, place j of the row held is that sum
-pub held-entry : {f : ℕ → ℕ} {t : List (List ℕ)} {n i j : ℕ} {row : List ℕ} → Passed f t i n row → n ≡ 43 → i < 43 → j < 37 → getD row j 0 ≡ total f 100 (100 + 10 * (37 * i + j) - 100)
+pub held-entry : {f : ℕ → ℕ} {t : List (List ℕ)} {n i j : ℕ} {row : List ℕ} → Passed f t i n row → n ≡ 43 → i < 43 → j < 37 → getD row j 0 ≡ sum f (37 * i + j)
 held-entry {f} {t} {n} {i} {j} p all lt place = ap (λ (r : List ℕ). getD r j 0) (p .held (omega arith)) ∙ ruled-entry f t (p .ruled) i j lt place

@@ -8,7 +8,7 @@ use lengths::Ladder;
 use line::Shape;
 use provision::Provision;
 
-// About the index of the first rung that does not miss the need `required`: the rung next to the thickness that just provides it.
+// About the index of the first rung that does not miss the need `required`: the rung nearest to the thickness that just provides it.
 pub fn likely_rung(p: Provision, required: Bounds) -> u64
     requires { ⌜ LineInRange (p .line) ⌝ }
     ensures { λ r. ⌜ r ≤ rungs ⌝ }
@@ -18,6 +18,7 @@ pub fn likely_rung(p: Provision, required: Bounds) -> u64
     }
     // what the insulation has to provide, in micrometres
     let rest = (required.lower - p.film.upper) / 1000;
+    // no rung provides 4 m
     if 4_000_000 <= rest {
         return Ladder::count();
     }

@@ -1,4 +1,4 @@
--- Sums of steps from one diameter to another: one step more, and in two parts; and that they fit 64 bits. Each law is over the figures f of a step.
+-- Sums of steps from one diameter to another: one step more, and in two parts; and that they fit 64 bits. Each law but the last, which is of both sides, is over the figures f of a step.
 -- Assumes nothing.
 use mathlib.Core.Path.{_≡_, sym}
 use Prim.Native.Nat.{ℕ, zero, suc, _+_, _-_, _*_, _^_, _≤_, _<_}

@@ -48,7 +48,7 @@ pub fn log_beyond(inner: Bounds, d: Diameter, e: Diameter) -> Bounds
     difference(log_from_10mm(e), inner)
 }
 
-// Two logarithms, side by side: one after the other, and one without the other.
+// The logarithm over two stretches, one after the other: each side is added.
 fn sum(a: Bounds, b: Bounds) -> Bounds
     requires { ⌜ (a .lower + b .lower < 2 ^ 64) × (a .upper + b .upper < 2 ^ 64) ⌝ }
     ensures { λ r. ⌜ (r .lower ≡ a .lower + b .lower) × (r .upper ≡ a .upper + b .upper) ⌝ }
@@ -59,6 +59,7 @@ fn sum(a: Bounds, b: Bounds) -> Bounds
     }
 }
 
+// The logarithm over a stretch without a part of it: each side is taken off.
 fn difference(a: Bounds, b: Bounds) -> Bounds
     requires { ⌜ (b .lower ≤ a .lower) × (b .upper ≤ a .upper) ⌝ }
     ensures { λ r. ⌜ (r .lower ≡ a .lower - b .lower) × (r .upper ≡ a .upper - b .upper) ⌝ }

@@ -69,7 +69,7 @@ first-part k n d u some small pos low next u-small =
     let times : k * u ≤ 2 ^ 12 * 2 ^ 32 = product-le (2 ^ 12) (2 ^ 32) (omega arith) (omega arith) in
     let part : k * k * (n % d) / d < k * k = div-lt-iff-lt-mul pos .1 (mul-lt-mul-of-pos-left (mod-lt n pos) (mul-pos some some)) in
     record {
-      low = omega arith;
+      low = low;
       lacks = most;
       root = times;
       square = product-le (2 ^ 12 * 2 ^ 12) (2 * 2 ^ 32) (product-le (2 ^ 12) (2 ^ 12) (omega arith) (omega arith)) (omega arith);

@@ -18,7 +18,8 @@ fn increment(a: u64, gap: u64, limit: u64) -> u64
     v
 }
 
-// A number above the root of x, at most four times as large where x is from 2²⁰ to 2⁴⁰: Newton's rule takes few turns from there.
+// A number above the root of x, at most four times as large where x is from 2²⁰ on and below 2⁴⁰, so that Newton's rule takes six turns or
+// fewer from there.
 fn root_limit(x: u64) -> u64
     ensures { λ r. ⌜ (x < r * r) × (r * r ≤ 2 ^ 64) × (r ≤ 2 ^ 32) ⌝ }
 {

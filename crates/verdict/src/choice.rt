@@ -46,8 +46,8 @@ pub fn search(prepared: Provision, required: Bounds) -> Choice
     }
 }
 
-// The rung to try next, from low on and below high: the likely one, after it the one beside it, and then the middle one. Mostly two trials
-// are enough; where the estimate is far off, the search goes on by bisection.
+// The rung to try next, from low on and below high: the likely one, after it the one beside it, and then the middle one. Two trials
+// are enough where the rung found is the likely one or the next above it; otherwise the search goes on by bisection.
 fn next_trial(low: u64, high: u64, likely: u64) -> u64
     requires { ⌜ (low < high) × (high ≤ rungs) × (likely ≤ rungs) ⌝ }
     ensures { λ r. ⌜ (low ≤ r) × (r < high) ⌝ }

@@ -8,7 +8,7 @@ mod clock {
     use std::ffi::{c_int, c_long};
 
     pub const THREAD_CLOCK: &str = "thread CPU time";
-    pub const CHILDREN_CLOCK: &str = "user CPU time";
+    pub const CHILDREN_CLOCK: &str = "CPU time";
 
     const CLOCK_THREAD_CPUTIME_ID: c_int = 3;
     const RUSAGE_CHILDREN: c_int = -1;
@@ -49,13 +49,15 @@ mod clock {
         time.in_seconds(1e9)
     }
 
-    /// User CPU time of the child processes that have ended up to now.
-    pub fn children_seconds() -> f64 {
+    /// CPU time of the child processes that have ended up to now: in user mode,
+    /// and in all.
+    pub fn children_seconds() -> [f64; 2] {
         let mut usage = Usage::default();
         // SAFETY: the pointer comes from a live borrow of an `rusage`.
         let status = unsafe { getrusage(RUSAGE_CHILDREN, &mut usage) };
         assert_eq!(status, 0, "the children's CPU time cannot be read");
-        usage.user.in_seconds(1e6)
+        let user = usage.user.in_seconds(1e6);
+        [user, user + usage.system.in_seconds(1e6)]
     }
 }
 
@@ -74,7 +76,7 @@ mod clock {
         START.get_or_init(Instant::now).elapsed().as_secs_f64()
     }
 
-    pub fn children_seconds() -> f64 {
-        thread_seconds()
+    pub fn children_seconds() -> [f64; 2] {
+        [thread_seconds(); 2]
     }
 }

@@ -2,6 +2,7 @@
 
 use comparison::plain::{LINE_OFFSET, SHEET_LENGTH};
 use comparison::sheets::{put, Draft};
+use std::fs;
 use std::io::Write;
 use std::process::{Command, Stdio};
 use std::thread;
@@ -40,6 +41,30 @@ fn beyond_the_ladder(line: i32) -> Draft {
     let mut draft = wall(line, 0);
     put(&mut draft, SHEET_LENGTH - 2, 20);
     draft
+}
+
+/// The examples' listings were computed in Python.
+fn example(name: &str) -> (String, String) {
+    let root = concat!(env!("CARGO_MANIFEST_DIR"), "/../../examples/");
+    let sheets = fs::read(format!("{root}{name}.sheets")).expect("the example's sheets");
+    let text = fs::read_to_string(format!("{root}{name}.txt")).expect("its listing");
+    (listing(sheets), text)
+}
+
+#[test]
+fn ducts_are_listed_as_in_the_example() {
+    let (printed, expected) = example("rows");
+    assert_eq!(printed, expected);
+}
+
+/// All but line 194, where the exact figures leave the rung open.
+#[test]
+fn a_plant_is_listed_as_in_the_example() {
+    let (printed, expected) = example("plant");
+    let pairs = printed.lines().zip(expected.lines());
+    let differing: Vec<_> = pairs.filter(|(line, other)| line != other).collect();
+    assert_eq!(printed.lines().count(), expected.lines().count());
+    assert!(matches!(differing[..], [(_, "194 refused 18")]));
 }
 
 #[test]

@@ -1,4 +1,4 @@
--- `estimate::around_pipe` meets its contract: every figure fits 64 bits, and the factor is at most the divisor.
+-- `estimate::around_pipe` meets its contract: every figure fits 64 bits, and the factor is at most twice the divisor.
 -- Assumes nothing.
 use Prim.Native.Nat.{ℕ, _+_, _*_, _/_, _≤_, _<_}
 use native.Mathlib.Nat.{mul-le-mul, mul-le-mul-left, div-le-of-le-mul}

@@ -22,9 +22,6 @@ loop-holds c =
     let whole : c .args .limit - 1 + 1 ≡ c .args .limit = omega (arith, some c) in
     (omega (arith, some c), rw whole (c .pre .0))
 
-mul-v-2 : tie.Need-mul-v-2 Inv-loop μ-loop
-mul-v-2 c = omega (arith, gain-lt (c .before .before .args .a) (c .before .loop .inv .0))
-
 -- the turn, by Newton's rule
 next : (c : tie.In-loop Inv-loop μ-loop) → NewtonStep (c .before .before .args .a) (c .before .before .args .gap) (c .before .loop .v)
 next c = newton-step (c .before .before .args .a) (c .before .before .args .gap) (c .before .loop .v) (c .loop-test .taken)
@@ -32,11 +29,9 @@ next c = newton-step (c .before .before .args .a) (c .before .before .args .gap)
 pub increment-spec : {M : Type 1} → statement M
 increment-spec =
     tie.close
-    (tie.spec Inv-loop μ-loop
-    (λ c. omega (arith, some c))
-    loop-holds
+    (tie.spec Inv-loop μ-loop (λ c. omega (arith, some c)) loop-holds
     (λ c. search needs) (λ c. search needs) (λ c. omega (arith, gain-lt (c .before .args .a) (c .loop .inv .0)))
-    (λ c. search needs) (λ c. search needs) mul-v-2
+    (λ c. search needs) (λ c. search needs) (λ c. omega (arith, gain-lt (c .before .before .args .a) (c .before .loop .inv .0)))
     (λ c. search needs) (λ c. search needs) (λ c. search needs) (λ c. search needs)
     (λ c. omega (arith, next c)) (λ c. omega (arith, next c)) (λ c. next c .fits)
     (λ c. omega (arith, next c)) (λ c. (omega (arith, next c), next c .above)) (λ c. search needs))

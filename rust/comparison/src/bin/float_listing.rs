@@ -19,7 +19,6 @@ fn check_word(code: u8) -> &'static str {
     match code {
         plain::WITHIN => "within",
         plain::OVER => "over",
-        plain::TOO_CLOSE => "close",
         _ => "none",
     }
 }

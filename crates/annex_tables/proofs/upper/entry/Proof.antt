@@ -1,19 +1,15 @@
 -- `annex_tables::upper::entry` meets its contract. The loop's invariant: row i is held once it was passed. The measure is what is left of the rows.
 -- Assumes nothing.
 use mathlib.Core.Logic.{⊎-elim}
-use mathlib.Core.List.{List, flatten}
-use Prim.Native.Nat.{ℕ, _-_, _≤_}
+use mathlib.Core.List.{flatten}
+use Prim.Native.Nat.{_-_, _≤_}
 use native.Mathlib.Omega.{arith}
 use borrow.Author.Needs.{needs}
-use borrow.Table.Row.{get}
-use lib.Dec.{T}
 use Rattle.quadrature.specs.Sums.{summed}
 use Rattle.quadrature.specs.Figures.{upperStep}
-use Rattle.annex_tables.proofs.Rule.{rule, Passed, passed-first, passed-this, passed-other, held-entry}
+use Rattle.annex_tables.proofs.Rule.{Passed, passed-first, passed-this, passed-other, held-entry}
 use Rattle.annex_tables.proofs.upper.entry.Statement.{statement}
 use Rattle.annex_tables.proofs.upper.entry.Tie as tie
-use Rattle.annex_tables.proofs.upper.entry.Reads as reads
-use Rattle.annex_tables.proofs.upper.entry.Lts as lts
 
 abbrev Inv-loop : tie.InvT-loop
 Inv-loop i j table row₀ n₀ row n = (n ≤ 43) × Passed upperStep table i n row
@@ -21,17 +17,10 @@ Inv-loop i j table row₀ n₀ row n = (n ≤ 43) × Passed upperStep table i n 
 abbrev μ-loop : tie.MeasureT-loop
 μ-loop i j table row₀ n₀ row n = 43 - n
 
--- the table, as the function has it in its local
-abbrev table-of : tie.After-row Inv-loop μ-loop → List (List ℕ)
-table-of c = get 3 (lts.T142 .locals) (lts.m141 reads.Pre reads.Post Inv-loop μ-loop (c .before) (c .row .given))
-
 -- the whole table passes the rule, by one test that antt computes
-table-ruled : (c : tie.After-row Inv-loop μ-loop) → T (rule upperStep (table-of c))
+table-ruled : tie.Need-loop-holds Inv-loop μ-loop
 unfolding summed upperStep flatten
-table-ruled c = tt
-
-loop-holds : tie.Need-loop-holds Inv-loop μ-loop
-loop-holds c = (search needs, passed-first (table-ruled c))
+table-ruled c = (search needs, passed-first tt)
 
 loop-again : tie.Need-loop-again Inv-loop μ-loop
 loop-again c =
@@ -46,16 +35,6 @@ returns c =
 pub entry-spec : {M : Type 1} → statement M
 entry-spec =
     tie.close
-    (tie.spec
-    Inv-loop
-    μ-loop
-    (λ c. search needs)
-    loop-holds
-    (λ c. search needs)
-    (λ c. search needs)
-    (λ c. search needs)
-    (λ c. search needs)
-    loop-again
-    (λ c. search needs)
-    (λ c. search needs)
-    returns)
+    (tie.spec Inv-loop μ-loop (λ c. search needs) table-ruled
+    (λ c. search needs) (λ c. search needs) (λ c. search needs) (λ c. search needs) loop-again
+    (λ c. search needs) (λ c. search needs) returns)

@@ -92,22 +92,7 @@ returns-2 c =
 pub search-spec : {M : Type 1} → statement M
 search-spec =
     tie.close
-    (tie.spec
-    Inv-loop
-    μ-loop
-    (λ c κs. search needs)
-    (λ c κs. search needs)
-    loop-holds
-    (λ c κs. search needs)
-    (λ c κs. search needs)
-    at-requires
-    (λ c κs. search needs)
-    (λ c κs. search needs)
-    (λ c. omega arith)
-    loop-again
-    (λ c. omega arith)
-    (λ c. omega arith)
-    loop-again-2
-    (λ c κs. search needs)
-    returns
-    returns-2)
+    (tie.spec Inv-loop μ-loop (λ c κs. search needs) (λ c κs. search needs) loop-holds
+    (λ c κs. search needs) (λ c κs. search needs) at-requires (λ c κs. search needs) (λ c κs. search needs)
+    (λ c. omega arith) loop-again (λ c. omega arith) (λ c. omega arith) loop-again-2
+    (λ c κs. search needs) returns returns-2)

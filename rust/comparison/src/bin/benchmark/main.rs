@@ -1,6 +1,7 @@
 //! Prints how fast the proved call, the plain one and the floating-point one
 //! are, where the floating-point one differs, what a book call and a yearly
-//! share cost, and how long the listing programs take.
+//! share cost, how much stack the calls need, and how long the listing
+//! programs take.
 
 mod books;
 mod differences;
@@ -14,8 +15,9 @@ mod stack;
 use comparison::cpu;
 use comparison::sheets::Family;
 use report::heading;
+use std::process::ExitCode;
 
-fn main() {
+fn main() -> ExitCode {
     println!("Calls are timed by {}.", cpu::THREAD_CLOCK);
     heading("Mixed sheets");
     let mixed = sets::mixed();
@@ -44,5 +46,5 @@ fn main() {
         "Listing, a million sheets, seconds of {}",
         cpu::CHILDREN_CLOCK
     ));
-    listing::print(&[("mixed", &mixed), ("answered cylinders", &cylinders)]);
+    listing::print(&[("mixed", &mixed), ("answered cylinders", &cylinders)])
 }

@@ -63,8 +63,8 @@ fn answered_for(goal: Goal, shape: Shape) -> Batch {
     of_goal.take(CASE_COUNT).collect()
 }
 
-/// Sheets with faults. Those that lie just inside the faults and are answered
-/// are left out.
+/// Sheets with faults. Those at the edge of a fault that are answered after
+/// all are left out.
 fn refused() -> Batch {
     let refused = of_family(Family::Refused).filter(|sheet| proved_answer(sheet).is_err());
     refused.take(CASE_COUNT).collect()
