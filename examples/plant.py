@@ -8,7 +8,7 @@ A figure that the bytes of its field cannot hold exactly stops the script before
 import sys
 from fractions import Fraction
 
-GOALS = {"economy": 1, "loss": 2, "surface": 3}
+GOALS = {"economy": 1, "loss": 2, "surface": 3, "cold-surface": 4, "cold-economy": 5}
 SERVICES = {"year": 1, "season": 2, "year-i": 3, "season-i": 4}  # -i: the loss limit is interpolated between the rows
 UNSIGNED, SIGNED = (0, 65_535), (-32_768, 32_767)  # what two bytes hold
 
@@ -25,7 +25,8 @@ FIELDS = {
     "insulation price": ("1 yuan/m³", UNSIGNED),
     "yearly share": ("0.0001", UNSIGNED),
 }
-AIMS = {"economy": ("0.1", UNSIGNED), "loss": ("0.1 W/m²", UNSIGNED), "surface": ("0.1 °C", SIGNED)}
+AIMS = {"economy": ("0.1", UNSIGNED), "loss": ("0.1 W/m²", UNSIGNED), "surface": ("0.1 °C", SIGNED),
+        "cold-surface": ("0.1 °C", SIGNED), "cold-economy": ("0.1", UNSIGNED)}
 
 # By column: line; goal; service; diameter, mm; pipe and air, °C; conductivity, W/(m·K); surface coefficient, W/(m²·K);
 # heat price, yuan/GJ; hours a year; insulation price, yuan/m³; yearly share; aim, W/m² for a loss and °C for a surface.
@@ -91,5 +92,10 @@ def sheet(row):
     return head + b"".join(encoded(line, name, x, unit, *bounds) for (name, (unit, bounds)), x in zip(fields, [line, *figures]))
 
 
+def write(table):
+    """Writes the sheets of a table to standard output."""
+    sys.stdout.buffer.write(b"".join(map(sheet, table.strip().splitlines())))
+
+
 if __name__ == "__main__":
-    sys.stdout.buffer.write(b"".join(map(sheet, SHEETS.strip().splitlines())))
+    write(SHEETS)

@@ -34,7 +34,7 @@ repeat() {
     done
 }
 
-for example in plant rows; do
+for example in plant rows cold; do
     $listing <examples/$example.sheets >"$made/out"
     expect "the example $example" <examples/$example.txt
 done

@@ -1,6 +1,6 @@
 #!/bin/sh
 # Runs the scripts that write sheets: a number that a field's bytes cannot hold stops them with the field's name, the largest and the least
-# that they hold pass, and the stored examples come out as they are stored.
+# that they hold pass, a few sheets are answered, and the stored examples come out as they are stored.
 set -eu
 cd "$(dirname "$0")/.." || exit 1
 if ! command -v python3 >/dev/null; then
@@ -61,6 +61,10 @@ gives 'a row of the largest figures' 0304ffffffff7fff7ffffffffffffffffffffffffff
     plant '65535 surface season-i 6553.5 3276.7 3276.7 6.5535 655.35 655.35 65535 65535 6.5535 3276.7'
 gives 'a row of the least figures' 030100000000800080000000000000000000000000008000 \
     plant '0 surface year 0.0 -3276.8 -3276.8 0 0 0 0 0 0 -3276.8'
+gives 'a cold row of the least figures' 040100000000800080000000000000000000000000008000 \
+    plant '0 cold-surface year 0.0 -3276.8 -3276.8 0 0 0 0 0 0 -3276.8'
+gives 'a cold row with the largest aim' 05020000000000000000000000000000000000000000ffff \
+    plant '0 cold-economy season 0 0 0 0 0 0 0 0 0 6553.5'
 gives 'a row with the largest loss' 02020000000000000000000000000000000000000000ffff \
     plant '0 loss season 0 0 0 0 0 0 0 0 0 6553.5'
 
@@ -86,12 +90,19 @@ refuses 'a row with line 65536' 'line 65536: the line is 65536, but its field ho
     plant "$(with 1 65536 "$tank")"
 refuses 'a row with a surface aim' 'line 160: the aim is 3276.8, but its field holds -32,768 to 32,767 whole units of 0.1 °C' \
     plant "$(with 13 3276.8 "$(with 2 surface "$tank")")"
-refuses 'a row with another goal' 'line 160: the goal is price, but it must be one of economy, loss, surface' plant "$(with 2 price "$tank")"
+refuses 'a row with a cold surface aim' 'line 160: the aim is -3276.9, but its field holds -32,768 to 32,767 whole units of 0.1 °C' \
+    plant "$(with 13 -3276.9 "$(with 2 cold-surface "$tank")")"
+refuses 'a row with a cold economy aim' 'line 160: the aim is -0.1, but its field holds 0 to 65,535 whole units of 0.1' \
+    plant "$(with 13 -0.1 "$(with 2 cold-economy "$tank")")"
+refuses 'a row with another goal' \
+    'line 160: the goal is price, but it must be one of economy, loss, surface, cold-surface, cold-economy' plant "$(with 2 price "$tank")"
 
 gives 'a sheet of the largest numbers' ffffffffffff7fff7fffffffffffffffffffffffffffffff \
     packed 255 255 65535 65535 32767 32767 65535 65535 65535 65535 65535 65535 65535
 gives 'a sheet of the least numbers' 030000000000800080000000000000000000000000008000 \
     packed 3 0 0 0 -32768 -32768 0 0 0 0 0 0 -32768
+gives 'a cold sheet of the least numbers' 040000000000800080000000000000000000000000008000 \
+    packed 4 0 0 0 -32768 -32768 0 0 0 0 0 0 -32768
 
 sheet='1 1 60000 850 150 400 1163 5500 8000 800 2296 0'
 while read -r column value name said held; do
@@ -110,8 +121,19 @@ done <<END
 12 -1 aim -1 the whole numbers 0 to 65,535
 END
 # shellcheck disable=SC2086,SC2046
-refuses 'a sheet with a surface aim' 'aim is 32,768, but its field holds the whole numbers -32,768 to 32,767' \
-    python3 tools/sheet.py $(with 12 32768 "$(with 1 3 "$sheet")")
+for goal in 3 4; do
+    refuses "a sheet with a surface aim, goal $goal" 'aim is 32,768, but its field holds the whole numbers -32,768 to 32,767' \
+        python3 tools/sheet.py $(with 12 32768 "$(with 1 $goal "$sheet")")
+done
+# shellcheck disable=SC2086,SC2046
+refuses 'a cold economy sheet with aim -1' 'aim is -1, but its field holds the whole numbers 0 to 65,535' \
+    python3 tools/sheet.py $(with 12 -1 "$(with 1 5 "$sheet")")
+
+# a bound is 256 times its high byte plus its low byte, less 65,536 from 32,768 on
+gives 'hot water, 20 mm and up to 7.7 °C' '0 1 0 20 3 0 0 77' python3 tools/sheet.py 1 1 270 207 70 333 2048 7500 2880 1600 2296 0
+gives 'chilled water, 20 mm and down to 20.0 °C' '0 1 0 20 3 0 0 200' python3 tools/sheet.py 5 1 270 70 207 333 2048 7500 2880 1600 2296 0
+gives 'liquid nitrogen, 50 mm and down to 43.0 °C' '0 2 0 50 3 0 1 174' python3 tools/sheet.py 4 1 12000 -1960 440 200 10000 0 0 0 0 430
+gives 'a t of -196.1 °C' 'refused 13' python3 tools/sheet.py 4 1 12000 -1961 440 200 10000 0 0 0 0 430
 
 # made TEXT: a sheet from what a caller hands over
 made() { python3 -c "import sys; sys.path.insert(0, 'tools'); import sheet; print(sheet.sheet_of($1).hex())"; }
@@ -121,7 +143,7 @@ refuses 'half an aim' 'aim is 0.5, but its field holds the whole numbers 0 to 65
 refuses 'another name' 'lien is no field of a sheet' made "$fields, aim=0, lien=7"
 refuses 'a name that is missing' 'aim is not given' made "$fields"
 
-for example in plant rows; do
+for example in plant rows cold; do
     python3 examples/$example.py >"$made/out"
     report "the sheets of $example" <examples/$example.sheets
     python3 tools/listing.py <examples/$example.sheets >"$made/out"

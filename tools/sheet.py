@@ -3,8 +3,8 @@
 
     python3 tools/sheet.py goal service D t ta L alpha f tau P S aim
 
-prints the eight bytes of the answer, or the word refused and the refusal's number. t, ta and a surface aim may be negative. A number
-that its field cannot hold stops the script.
+prints the eight bytes of the answer, or the word refused and the refusal's number. The goals are 1 economy, 2 loss, 3 surface,
+4 cold surface and 5 cold economy. t, ta and a surface aim may be negative. A number that its field cannot hold stops the script.
 """
 import sys
 from fractions import Fraction
@@ -14,6 +14,7 @@ YEAR_ROUND = [58, 93, 116, 140, 163, 186, 209, 227, 244, 262, 279, 296, 314]
 SEASONAL = [116, 163, 203, 244, 273, 296, 308, 314]
 MEETS, MISSES, OPEN = 0, 1, 2
 NAMES = "goal service line D t ta L alpha f tau P S aim".split()
+GOALS, SURFACE_GOALS, ECONOMY_GOALS, COLD_GOALS = (1, 2, 3, 4, 5), (3, 4), (1, 5), (4, 5)
 
 
 def up(n, d):
@@ -42,6 +43,16 @@ def root(n, d):
     return r, r if r * r * d == n else r + 1
 
 
+def loss_need(heat, loss):
+    """Low need and high need at a loss; heat is 2LΔ on a cylinder, LΔ on a flat wall."""
+    return ratio(heat * 10**5, loss)
+
+
+def surface_need(heat, alpha, s):
+    """Low need and high need at a surface s from ta; heat as above."""
+    return ratio(heat * 10**7, alpha * s)
+
+
 def judge(h, n):
     return MEETS if h[0] >= n[1] else MISSES if h[1] < n[0] else OPEN
 
@@ -65,7 +76,12 @@ def signed(x):
 
 def is_signed(name, goal):
     """Whether a field of a sheet is signed."""
-    return name in ("t", "ta") or name == "aim" and goal == 3
+    return name in ("t", "ta") or name == "aim" and goal in SURFACE_GOALS
+
+
+def direction(goal):
+    """1 where heat flows outward, -1 where it flows inward, as on a cold line: temperatures are counted from ta that way."""
+    return -1 if goal in COLD_GOALS else 1
 
 
 def encoded(name, value, size=2, negative=False):
@@ -83,28 +99,31 @@ def answer(sheet):
         return 11
     goal, service = sheet[0], sheet[1]
     _, D, t, ta, L, alpha, f, tau, P, S, aim = (256 * sheet[i] + sheet[i + 1] for i in range(2, 24, 2))
-    t, ta, surface = signed(t), signed(ta), signed(aim)
-    if goal not in (1, 2, 3) or service not in (1, 2, 3, 4):
+    t, ta = signed(t), signed(ta)
+    if goal not in GOALS or service not in (1, 2, 3, 4):
         return 12
-    within = D >= 100 and -500 <= t <= 6_500 and -500 <= ta <= 500 and 1 <= L <= 2_000 and 100 <= alpha <= 10_000
-    if goal == 1:
+    cold, economy = goal in COLD_GOALS, goal in ECONOMY_GOALS
+    coldest = -1_960 if cold else -500
+    within = D >= 100 and coldest <= t <= 6_500 and -500 <= ta <= 500 and 1 <= L <= 2_000 and 100 <= alpha <= 10_000
+    if economy:
         within = within and f >= 1 and 1 <= tau <= 8_784 and P >= 1 and 1 <= S <= 10_000
     if not within:
         return 13
-    if aim != 0 if goal == 1 else (f, tau, P, S) != (0, 0, 0, 0):
+    if aim != 0 if economy else (f, tau, P, S) != (0, 0, 0, 0):
         return 14
-    if t <= ta:
+    way = direction(goal)
+    delta, s = way * (t - ta), way * (signed(aim) - ta)
+    if delta <= 0:
         return 15
-    if goal == 2 and aim == 0 or goal == 3 and not ta < surface < t:
+    if goal == 2 and aim == 0 or goal in SURFACE_GOALS and not 0 < s < delta:
         return 16
 
-    delta, n = t - ta, 2 if D <= 10_000 else 1
-    if goal == 1:
+    n = 2 if D <= 10_000 else 1
+    heat = n * L * delta
+    if economy:
         need = root((14_402_025_000 if n == 2 else 3_598_609_000) * f * L * tau * delta, P * S)
-    elif goal == 2:
-        need = ratio(n * L * delta * 10**5, aim)
     else:
-        need = ratio(n * L * delta * 10**7, alpha * (surface - ta))
+        need = loss_need(heat, aim) if goal == 2 else surface_need(heat, alpha, s)
     for k in range(0, 301, 10):
         h = have(D, L, alpha, k)
         verdict = judge(h, need)
@@ -115,11 +134,13 @@ def answer(sheet):
     if verdict == OPEN:
         return 18
 
-    limit = loss_limit(service, t)
-    loss = 3 if limit is None else judge(h, ratio(n * L * delta * 10**5, limit))
-    limit = 500 if ta <= 270 else ta + 250
-    surface = MEETS if t <= limit else judge(h, ratio(n * L * delta * 10**7, alpha * (limit - ta)))
-    bound = min(t, ta + up(n * L * 10**7 * delta, alpha * h[0]))
+    loss, surface = 3, MEETS
+    if not cold:
+        limit = loss_limit(service, t)
+        loss = 3 if limit is None else judge(h, loss_need(heat, limit))
+        limit = 500 if ta <= 270 else ta + 250
+        surface = MEETS if t <= limit else judge(h, surface_need(heat, alpha, limit - ta))
+    bound = ta + way * min(delta, up(heat * 10**7, alpha * h[0]))
     return [0, 3 - n, *encoded("thickness", k), loss, surface, *encoded("surface bound", bound, negative=True)]
 
 

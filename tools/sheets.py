@@ -11,20 +11,26 @@ from collections import Counter
 from random import Random
 
 sys.dont_write_bytecode = True
-from near import (aimed, allowed, between, chosen, close_loss, close_surface, edge, fields, have, level, moved, open_at,
+from near import (aimed, allowed, beside_air, between, chosen, close_loss, close_surface, edge, fields, have, level, moved, open_at,
                   over_loss, packed, surface_limit, within_loss)
-from sheet import answer, is_signed, signed
+from sheet import COLD_GOALS, ECONOMY_GOALS, GOALS, SURFACE_GOALS, answer, direction, is_signed, signed
 
 F = dict(goal=2, service=1, line=7, D=12_000, t=1_300, ta=200, L=400, alpha=800, f=0, tau=0, P=0, S=0, aim=800)
 G = dict(goal=2, service=1, line=9, D=10_001, t=300, ta=200, L=400, alpha=1_163, f=0, tau=0, P=0, S=0, aim=1_163)
 LINES = [0, 1, 9, 10, 99, 100, 255, 256, 999, 1_000, 9_999, 10_000, 32_767, 32_768, 65_534, 65_535]
-RANGES = dict(D=(100, 65_535), t=(-500, 6_500), ta=(-500, 500), L=(1, 2_000), alpha=(100, 10_000))
+RANGES = dict(D=(100, 65_535), ta=(-500, 500), L=(1, 2_000), alpha=(100, 10_000))
 PRICES = dict(f=(1, 65_535), tau=(1, 8_784), P=(1, 65_535), S=(1, 10_000))
+HOT_GOALS = (1, 2, 3)
 
 
-def kind(r):
+def coldest(goal):
+    """The lower end of the range of t."""
+    return -1_960 if goal in COLD_GOALS else -500
+
+
+def kind(r, goals=GOALS):
     """A goal, and whether the wall is flat."""
-    return r.randint(1, 3), r.random() < 0.4
+    return r.choice(goals), r.random() < 0.4
 
 
 def rung(r):
@@ -32,10 +38,10 @@ def rung(r):
     return 10 * r.choice([r.randint(0, 30), r.randint(0, 10)])
 
 
-def good(r, **fixed):
+def good(r, goals=GOALS, **fixed):
     """An answered sheet of any goal, shape and thickness."""
     while True:
-        x = between(r, fields(r, *kind(r), **fixed), rung(r))
+        x = between(r, fields(r, *kind(r, goals), **fixed), rung(r))
         if x:
             return x
 
@@ -68,12 +74,13 @@ def border_diameter(r):
 def any_aim(r):
     """Fields in their ranges, the aim anything: mostly bare, beyond the ladder, or an aim that is refused."""
     x = fields(r, *kind(r))
-    return [x if x["goal"] == 1 else {**x, "aim": r.randint(0, 65_535) if x["goal"] == 2 else r.randint(-600, 6_600)}]
+    low, high = {2: (0, 65_535), 3: (-600, 6_600), 4: (-2_000, 600)}.get(x["goal"], (0, 0))
+    return [{**x, "aim": r.randint(low, high)}]
 
 
 def bare(r):
-    """Thickness 0. Under goal 3 bare pipe never meets, since the aim is below t."""
-    return [chosen(r, r.randint(1, 2), r.random() < 0.4, 0)]
+    """Thickness 0. Under goals 3 and 4 bare pipe never meets, since the aim is not t."""
+    return [chosen(r, *kind(r, (1, 2, 5)), 0)]
 
 
 def top(r):
@@ -93,16 +100,16 @@ def beyond(r):
 
 def unknown_code(r):
     """A goal or a service that is not known."""
-    name, known = r.choice([("goal", 3), ("service", 4)])
+    name, known = r.choice([("goal", 5), ("service", 4)])
     return [wrapped({**good(r), name: r.choice([0, known + 1, known + 2, 255, r.randint(known + 1, 255)])})]
 
 
 def range_edges(r):
     """Under each goal, each field at each end of its range, and one outside where 16 bits hold that."""
     made = []
-    for goal in (1, 2, 3):
+    for goal in GOALS:
         x = chosen(r, goal, r.random() < 0.4, 10 * r.randint(1, 10))
-        for name, (low, high) in {**RANGES, **(PRICES if goal == 1 else {})}.items():
+        for name, (low, high) in {**RANGES, "t": (coldest(goal), 6_500), **(PRICES if goal in ECONOMY_GOALS else {})}.items():
             made += [{**x, name: v} for v in (low - 1, low, high, high + 1) if v <= 65_535]
     return made
 
@@ -110,7 +117,9 @@ def range_edges(r):
 def out_of_range(r):
     """One field far outside of its range."""
     x = good(r)
-    return [{**x, **r.choice([dict(D=r.randint(0, 99)), dict(t=r.randint(6_501, 32_767)), dict(t=r.randint(-32_768, -501)),
+    low = coldest(x["goal"]) - 1
+    return [{**x, **r.choice([dict(D=r.randint(0, 99)), dict(t=r.randint(6_501, 32_767)),
+                              dict(t=r.randint(-32_768, low)), dict(t=r.randint(low - 1_460, low)),
                               dict(ta=r.randint(501, 32_767)), dict(ta=r.randint(-32_768, -501)),
                               dict(L=r.randint(2_001, 65_535)), dict(alpha=r.randint(10_001, 65_535))])}]
 
@@ -118,20 +127,27 @@ def out_of_range(r):
 def unused_field(r):
     """A field that must be zero and is not, by one of its bits or by many."""
     x = good(r)
-    name = "aim" if x["goal"] == 1 else r.choice(list(PRICES))
+    name = "aim" if x["goal"] in ECONOMY_GOALS else r.choice(list(PRICES))
     return [{**x, name: r.choice([1 << r.randrange(16), r.randint(1, 65_535)])}]
 
 
-def not_warmer(r):
-    """The pipe a little or much colder than the air, or just as warm; and a tenth warmer."""
+def wrong_side(r):
+    """A hot pipe a little or much colder than the air, a cold one warmer, or one just as warm; and a tenth on the right side."""
     x = good(r, ta=r.randint(-490, 490))
-    return [{**x, "t": x["ta"] - r.choice([0, 1, 2, r.randint(0, x["ta"] + 500)])}, {**x, "t": x["ta"] + 1}]
+    widest = 6_500 - x["ta"] if x["goal"] in COLD_GOALS else x["ta"] + 500
+    return [{**x, "t": beside_air(x, by)} for by in (-r.choice([0, 1, 2, r.randint(0, widest)]), 1)]
+
+
+def other_direction(r):
+    """A good sheet under a goal of the other direction that uses the same fields."""
+    x = good(r)
+    return [wrapped({**x, "goal": {1: 5, 2: 4, 3: 4, 4: r.choice([2, 3]), 5: 1}[x["goal"]]})]
 
 
 def aim_edge(r):
     """Aims at and around 0, ta and t."""
     x = good(r)
-    if x["goal"] == 1:
+    if x["goal"] in ECONOMY_GOALS:
         return [{**x, "aim": r.choice([0, 1, 65_535])}]
     at = r.choice([0, x["ta"], x["t"]])
     return [wrapped({**x, "aim": at + r.choice([-1, 0, 1])})]
@@ -140,34 +156,47 @@ def aim_edge(r):
 def around_zero(r):
     """A temperature of the air, the pipe or the surface next to zero."""
     at, by = r.randint(-3, 3), r.randint(3, 400)
-    t, ta = r.choice([(at + by, at), (at, at - by), (at + by, at - by)])
-    return [good(r, t=t, ta=ta)]
+    high, low = r.choice([(at + by, at), (at, at - by), (at + by, at - by)])
+    return [good(r, HOT_GOALS, t=high, ta=low) if r.random() < 0.5 else good(r, COLD_GOALS, t=low, ta=high)]
 
 
-def cold_bound(r):
+def bound(x):
+    """The surface bound of an answered sheet."""
+    *_, high, low = answer(packed(x))
+    return signed(256 * high + low)
+
+
+def bound_near_zero(r):
     """A surface bound below zero or next to it: both temperatures are moved by as much."""
     while True:
-        x = chosen(r, r.randint(1, 2), r.random() < 0.4, 10 * r.randint(0, 20))
-        result = answer(packed(x))
-        wanted = r.choice([r.randint(-12, 12), r.randint(-499, -1), -499, -5, 0])
-        by = wanted - signed(256 * result[6] + result[7])
-        if -500 <= x["ta"] + by <= 500 and x["t"] + by <= 6_500:
+        x = chosen(r, *kind(r, (1, 2, 5)), 10 * r.randint(0, 20))
+        by = r.choice([r.randint(-12, 12), r.randint(-499, -1), -499, -5, 0]) - bound(x)
+        if -500 <= x["ta"] + by <= 500 and coldest(x["goal"]) <= x["t"] + by <= 6_500:
             return [{**x, "t": x["t"] + by, "ta": x["ta"] + by}]
 
 
-def coldest_bound(r):
-    """The lowest bound that there is, -49.9."""
-    while True:
-        x = chosen(r, 2, r.random() < 0.4, 10 * r.randint(3, 10), ta=-500, t=r.randint(-497, -400))
-        result = answer(packed(x))
-        if signed(256 * result[6] + result[7]) == -499:
-            return [x]
+def last_bounds(r):
+    """The lowest bound of a hot line, -49.9, and the lowest and the highest of a cold one, -196.0 and 49.9."""
+    k = 10 * r.randint(3, 10)
+    made = [chosen(r, 5, r.random() < 0.4, 0, t=-1_960, ta=r.randint(-500, 500))]
+    for goals, ta, step in (((2,), -500, 1), (COLD_GOALS, 500, -1)):
+        x = None
+        while x is None or bound(x) != ta + step:
+            x = chosen(r, *kind(r, goals), k, ta=ta, t=ta + step * r.randint(3, 100))
+        made.append(x)
+    return made
+
+
+def nitrogen(r):
+    """A line at -196.0 degrees or a little above, and the same at -196.1."""
+    x = good(r, COLD_GOALS, t=-1_960 + r.choice([0, 1, r.randint(0, 99)]), ta=r.randint(-500, 500))
+    return [x, {**x, "t": -1_961}]
 
 
 def row_edge(r):
     """A pipe at a temperature of the loss table, a tenth below and above, and halfway to the next, for each service."""
     t = 500 * r.randint(1, 13)
-    x = good(r, t=t)
+    x = good(r, HOT_GOALS, t=t)
     return [{**x, "service": service, "t": v} for service in (1, 2, 3, 4) for v in (t - 1, t, t + 1, t + 250) if v <= 6_500]
 
 
@@ -183,9 +212,9 @@ def no_limit(r):
     """No loss limit printed."""
     if r.random() < 0.5:
         service, least = r.choice([(2, 4_500), (4, 4_001)])
-        return [good(r, service=service, t=r.randint(least, r.choice([4_500, 6_500])))]
+        return [good(r, HOT_GOALS, service=service, t=r.randint(least, r.choice([4_500, 6_500])))]
     ta = r.randint(-500, 450)
-    return [good(r, ta=ta, t=r.randint(ta + 2, 499))]
+    return [good(r, HOT_GOALS, ta=ta, t=r.randint(ta + 2, 499))]
 
 
 def surface_edges(r):
@@ -193,30 +222,30 @@ def surface_edges(r):
     made = []
     for ta in (-500, 269, 270, 271, 500, r.randint(-500, 500)):
         t = surface_limit(dict(ta=ta))
-        x = chosen(r, r.randint(1, 2), r.random() < 0.4, 0, t=t, ta=ta)
-        made += [{**x, "t": v} for v in (t - 1, t, t + 1)] + [good(r, t=t + r.randint(1, 300), ta=ta)]
+        x = chosen(r, *kind(r, (1, 2)), 0, t=t, ta=ta)
+        made += [{**x, "t": v} for v in (t - 1, t, t + 1)] + [good(r, HOT_GOALS, t=t + r.randint(1, 300), ta=ta)]
     return made
 
 
 def too_close(r, goal, flat, k, **fixed):
     """A sheet for which k mm are open, and its neighbours."""
     x = open_at(r, goal, flat, k, **fixed)
-    return [y for y in (moved(x, -1), x, moved(x, 1)) if y["goal"] == 3 or allowed(y)]
+    return [y for y in (moved(x, -1), x, moved(x, 1)) if y["goal"] in SURFACE_GOALS or allowed(y)]
 
 
 def open_small(r):
     """Small pipes, where the figures lie furthest apart."""
-    return too_close(r, r.randint(1, 3), False, rung(r), D=r.randint(100, 600))
+    return too_close(r, r.choice(GOALS), False, rung(r), D=r.randint(100, 600))
 
 
 def open_cylinder(r):
     """Pipes from 100 mm up."""
-    return too_close(r, r.randint(1, 3), False, rung(r), D=r.randint(1_000, 10_000))
+    return too_close(r, r.choice(GOALS), False, rung(r), D=r.randint(1_000, 10_000))
 
 
 def open_flat(r):
     """Flat walls, where only roundings lie between the figures."""
-    return too_close(r, r.randint(1, 3), True, rung(r))
+    return too_close(r, r.choice(GOALS), True, rung(r))
 
 
 def open_bare(r):
@@ -231,44 +260,47 @@ def open_top(r):
 
 def open_edge(r):
     """The last need that a rung meets, the first and the last that leave it open, the first that it misses."""
-    goal, flat, k = r.randint(1, 2), r.random() < 0.3, 10 * r.randint(0, 20)
+    goal, flat, k = r.choice((1, 2, 5)), r.random() < 0.3, 10 * r.randint(0, 20)
     return [edge(r, goal, flat, k, side, by) for side in (0, 1) for by in (0, 1)]
 
 
 def exact_root(r):
     """An economy sheet whose need is a whole number of nanometres, 18,970 x, and what a rung provides on a flat wall."""
     while True:
-        m = r.randint(1, 60)
-        k, L = 10 * (1_897 * m // 10_000), 1_897 * m % 10_000
+        goal = r.choice(ECONOMY_GOALS)
+        m = r.randint(1, 19 if goal in COLD_GOALS else 60)
+        L = 1_897 * m % 10_000
         if 1 <= L <= 2_000:
-            x = fields(r, 1, True, t=100 * m, ta=0, L=L, alpha=10_000, f=100, tau=100 * m, P=L, S=1_000)
+            t = direction(goal) * 100 * m
+            x = fields(r, goal, True, t=t, ta=0, L=L, alpha=10_000, f=100, tau=100 * m, P=L, S=1_000)
             return [{**x, "f": f} for f in (99, 100, 101)]
 
 
 def exact(r):
     """A flat wall that needs just what a rung provides, a whole number of nanometres: it meets."""
     alpha = r.choice([100, 125, 160, 200, 250, 320, 400, 500, 625, 800, 1_000, 1_250, 1_600, 2_000, 2_500, 4_000, 5_000, 10_000])
-    x = level(r, r.randint(2, 3), 10 * r.randint(1, 30), alpha=alpha)
+    x = level(r, r.choice((2, 3, 4)), 10 * r.randint(1, 30), alpha=alpha)
     return [y for y in (moved(x, -1), x, moved(x, 1)) if allowed(y)]
 
 
 def loss_too_close(r):
     """A loss check that is too close. Under goal 3 bare pipe never meets, since the aim is below t."""
-    goal, flat = kind(r)
+    goal, flat = kind(r, HOT_GOALS)
     return [close_loss(r, goal, flat, 10 * r.randint(1 if goal == 3 else 0, 15))]
 
 
 def surface_too_close(r):
     """A surface check that is too close."""
-    return [close_surface(r, *kind(r), 10 * r.randint(1, 15))]
+    return [close_surface(r, *kind(r, HOT_GOALS), 10 * r.randint(1, 15))]
 
 
 def several_faults(r):
     """Two or more fields made bad at once."""
     x = good(r)
-    bad = int(x["goal"] != 1)
-    faults = [dict(goal=r.choice([0, 4])), dict(service=r.choice([0, 5])), dict(D=r.randint(0, 99)), dict(L=2_001),
-              dict(alpha=99), dict(P=bad), dict(f=bad), dict(t=x["ta"]), dict(t=x["ta"] - 1), dict(aim=1 - bad)]
+    bad = int(x["goal"] not in ECONOMY_GOALS)
+    faults = [dict(goal=r.choice([0, 6])), dict(service=r.choice([0, 5])), dict(D=r.randint(0, 99)), dict(L=2_001),
+              dict(alpha=99), dict(P=bad), dict(f=bad), dict(t=x["ta"]), dict(t=beside_air(x, -1)), dict(t=-1_961),
+              dict(aim=1 - bad)]
     for fault in r.sample(faults, r.randint(2, 3)):
         x.update(fault)
     return [wrapped(x)]
@@ -282,12 +314,12 @@ def random_bytes(r):
     return [wrapped(x if r.random() < 0.7 else {**x, "goal": r.randint(0, 255), "service": r.randint(0, 255)})]
 
 
-KINDS = [(answered, 200), (small_pipe, 80), (border_diameter, 10), (any_aim, 60), (bare, 30), (top, 30), (beyond, 60),
-         (unknown_code, 40), (range_edges, 2), (out_of_range, 30), (unused_field, 40), (not_warmer, 25), (aim_edge, 50),
-         (around_zero, 60), (cold_bound, 60), (coldest_bound, 12), (row_edge, 20), (limit_edges, 2), (no_limit, 30),
-         (surface_edges, 4), (open_small, 30), (open_cylinder, 15), (open_flat, 40), (open_bare, 12), (open_top, 12),
-         (open_edge, 20), (exact_root, 5), (exact, 12), (loss_too_close, 40), (surface_too_close, 40), (several_faults, 40),
-         (random_bytes, 30)]
+KINDS = [(answered, 260), (small_pipe, 80), (border_diameter, 12), (any_aim, 70), (bare, 40), (top, 40), (beyond, 70),
+         (unknown_code, 40), (range_edges, 2), (out_of_range, 40), (unused_field, 50), (wrong_side, 30), (other_direction, 20),
+         (aim_edge, 60), (around_zero, 80), (bound_near_zero, 70), (last_bounds, 8), (nitrogen, 15), (row_edge, 20),
+         (limit_edges, 2), (no_limit, 30), (surface_edges, 4), (open_small, 36), (open_cylinder, 20), (open_flat, 48),
+         (open_bare, 16), (open_top, 16), (open_edge, 20), (exact_root, 8), (exact, 15), (loss_too_close, 40),
+         (surface_too_close, 40), (several_faults, 50), (random_bytes, 30)]
 
 
 def sheets():

@@ -5,8 +5,9 @@
     python3 tools/vectors.py expected > crates/vectors/stdout
 
 A vector is a line: its name, the sheet's bytes in hexadecimal (- for none), and the answer's bytes, or refused and the number.
-Each group states what it wants of its sheets, and the script fails where tools/sheet.py gives something else. Some sheets are
-found by trying, with Python 3.11; other versions may find others.
+Each group states what it wants of its sheets, and the script fails where tools/sheet.py gives something else. Thickness and bound
+of every answer are compared with the figures of tools/near.py too. Some sheets are found by trying, with Python 3.11; other versions
+may find others.
 """
 import re
 import sys
@@ -16,28 +17,43 @@ from random import Random
 sys.dont_write_bytecode = True
 from listing import line
 from near import (aimed, allowed, between, chosen, close_loss, close_surface, economy_square, edge, fields, have, layer,
-                  loss_need, moved, open_at, over_loss, packed, surface_need, thickness, verdict, within_loss)
+                  loss_need, moved, open_at, over_loss, packed, sides, surface_need, thickness, verdict, within_loss)
 from sheet import MEETS, MISSES, OPEN, SEASONAL, YEAR_ROUND, answer, judge, loss_limit, ratio, root, signed, up
 
+HOT, COLD = (1, 2, 3), (4, 5)  # goals
 UNUSED = dict(f=0, tau=0, P=0, S=0)
 ECONOMY = dict(goal=1, service=1, line=1, D=270, t=207, ta=70, L=333, alpha=2_048, f=7_500, tau=2_880, P=1_600, S=2_296, aim=0)
 LOSS = dict(goal=2, service=1, line=2, D=2_190, t=1_500, ta=200, L=400, alpha=1_163, **UNUSED, aim=1_000)
 SURFACE = dict(goal=3, service=1, line=3, D=1_080, t=1_500, ta=200, L=400, alpha=1_163, **UNUSED, aim=600)
 WARM = {**ECONOMY, "t": 1_500, "ta": 200}
-GOALS = [WARM, LOSS, SURFACE]
+COLD_SURFACE = dict(goal=4, service=1, line=4, D=1_080, t=-100, ta=300, L=400, alpha=1_163, **UNUSED, aim=250)
+COLD_ECONOMY = {**ECONOMY, "goal": 5, "line": 5, "t": -100, "ta": 300}
+GOALS = [WARM, LOSS, SURFACE, COLD_SURFACE, COLD_ECONOMY]
 F = dict(goal=2, service=1, line=7, D=12_000, t=1_300, ta=200, L=400, alpha=800, **UNUSED, aim=800)
 G = dict(goal=2, service=1, line=9, D=10_001, t=300, ta=200, L=400, alpha=1_163, **UNUSED, aim=1_163)
 SERVICES = {1: "year-round", 2: "seasonal", 3: "year-round-interpolated", 4: "seasonal-interpolated"}
 SHAPES = {False: "cylinder", True: "flat"}
 CHECKS = ["within", "over", "close", "none"]
 
-# Table 4 of source document 002 as printed: pipe diameter and computed thickness, both in m.
+# Tables 3, 4 and 5 of source document 002 as printed: pipe diameter and computed thickness, both in m.
+TABLE_3 = """
+0.027 0.02001    0.032 0.02071    0.038 0.02140    0.045 0.02205    0.057 0.02299    0.076 0.02408    0.089 0.02463
+0.108 0.02529    0.133 0.02596    0.159 0.02646    0.219 0.02729    0.273 0.02782    0.325 0.02814
+0.377 0.02843    0.426 0.02860    0.480 0.02878    0.530 0.02892    0.630 0.02913    0.730 0.02930    0.830 0.02942
+1.030 0.02960
+"""
 TABLE_4 = """
 0.027 0.01950    0.032 0.02015    0.038 0.02082    0.045 0.02148    0.057 0.02237    0.076 0.02340    0.089 0.02394
 0.108 0.02457    0.133 0.02520    0.159 0.02570    0.219 0.02648    0.273 0.02695    0.325 0.02728
 0.377 0.02753    0.426 0.02772    0.480 0.02789    0.530 0.02802    0.630 0.02822    0.730 0.02837    0.830 0.02849
 1.030 0.02866
-""".split()
+"""
+TABLE_5 = """
+0.027 0.02561    0.032 0.02650    0.038 0.02757    0.045 0.02861    0.057 0.02988    0.076 0.03114    0.089 0.03209
+0.108 0.03309    0.133 0.03405    0.159 0.03483    0.219 0.03610    0.273 0.03684    0.325 0.03745
+0.377 0.03798    0.426 0.03833    0.480 0.03864    0.530 0.03882    0.630 0.03883    0.730 0.03916    0.830 0.03972
+1.030 0.04004
+"""
 
 
 def word(number):
@@ -51,11 +67,35 @@ def parts(result):
     return dict(shape=shape, mm=256 * high + low, loss=loss, surface=surface, bound=signed(256 * bound[0] + bound[1]))
 
 
+def way(x):
+    """Where t lies: 1 above ta, -1 below it, under goals 4 and 5 of N4."""
+    return -1 if x["goal"] in COLD else 1
+
+
+def fall(x, k):
+    """How far from ta the surface of k mm lies at most, rounded up: 01's quotient 2L × 10⁷ × Δ / (α × under-have)."""
+    return up(sides(x) * x["L"] * 10**7 * abs(x["t"] - x["ta"]), x["alpha"] * have(x, k)[0])
+
+
+def cold(x, k):
+    """What is wanted of a cold sheet of k mm, by N4."""
+    return dict(mm=k, loss=3, surface=0, bound=max(x["t"], x["ta"] - fall(x, k)))
+
+
+def ordinary(x):
+    """What is wanted of a sheet that is not refused with 11 to 16: its thickness and its bound, and the checks of a cold one; or
+    refusal 17 or 18."""
+    k, found = thickness(x) or (None, MISSES)
+    if found != MEETS:
+        return 17 if found == MISSES else 18
+    return cold(x, k) if x["goal"] in COLD else dict(mm=k, bound=min(x["t"], x["ta"] + fall(x, k)))
+
+
 def diameters():
     """01: "D 10,000 is a cylinder, 10,001 flat"."""
     yield "diameter-10000-cylinder", {**LOSS, "D": 10_000}, dict(shape=1)
     yield "diameter-10001-flat", {**LOSS, "D": 10_001}, dict(shape=2)
-    for x in (WARM, SURFACE):
+    for x in (WARM, SURFACE, COLD_SURFACE, COLD_ECONOMY):
         yield f"diameter-10000-goal-{x['goal']}", {**x, "D": 10_000}, dict(shape=1)
         yield f"diameter-10001-goal-{x['goal']}", {**x, "D": 10_001}, dict(shape=2)
 
@@ -69,88 +109,122 @@ def economy():
 def table_4():
     """01: "table 4 of source document 002 up to D 10,000, with the two temperatures exchanged and the printed thickness, before
     its correction factor, taken up to the next 10 mm"."""
-    for diameter, printed in zip(TABLE_4[::2], TABLE_4[1::2]):
-        D, hundredths = 10 * int(diameter.replace(".", "")), int(printed.replace(".", ""))
-        if D <= 10_000:
-            yield f"table-4-d-{D}", {**ECONOMY, "D": D}, dict(mm=10 * up(hundredths, 1_000))
+    for D, k in printed(TABLE_4):
+        yield f"table-4-d-{D}", {**ECONOMY, "D": D}, dict(mm=k)
+
+
+def printed(table):
+    """The diameters of a table up to 10,000, in tenths of a millimetre, each with its thickness up to the next 10 mm."""
+    figures = [int(figure.replace(".", "")) for figure in table.split()]
+    return [(10 * D, 10 * up(hundredths, 1_000)) for D, hundredths in zip(figures[::2], figures[1::2]) if D <= 1_000]
+
+
+def cold_tables():
+    """The tables of source document 002 as they are, for cold lines: table 4, economy, with the water at 7 °C in air of 20.7 °C;
+    table 3, against condensation, with water at 7 °C, the surface at 31.3 °C and air of 34.8 °C; table 5 likewise with -10 °C.
+    Tables 3 and 5 take a surface coefficient of 8.141, and the field holds 8.14; D 270 of table 3 is left out, as that decides
+    between 20 and 30."""
+    wet = {**COLD_SURFACE, "ta": 348, "alpha": 814, "aim": 313}
+    sheets = {3: {**wet, "t": 70, "L": 357}, 4: {**ECONOMY, "goal": 5, "t": 70, "ta": 207}, 5: {**wet, "t": -100, "L": 287}}
+    for number, table in ((4, TABLE_4), (3, TABLE_3), (5, TABLE_5)):
+        for D, k in printed(table):
+            if (number, D) != (3, 270):
+                x = {**sheets[number], "D": D}
+                yield f"table-{number}-cold-d-{D}", x, cold(x, k)
 
 
 def lengths():
     """01: "11: length is not 24." A sheet cut, or followed by zeros."""
     for x in GOALS:
         for length in (0, 1, 23, 24, 25, 40):
-            yield f"length-{length}-goal-{x['goal']}", packed(x)[:length].ljust(length, b"\0"), {} if length == 24 else 11
+            other = packed(x)[:length].ljust(length, b"\0")
+            yield f"length-{length}-goal-{x['goal']}", x if length == 24 else other, {} if length == 24 else 11
 
 
 def codes():
-    """01: "12: goal or service code unknown"; 02, N2: "refusal 12 admits the two new codes"."""
-    for goal in (0, 1, 2, 3, 4, 5, 129, 130, 255):
-        x = {**(GOALS[goal - 1] if goal in (1, 2, 3) else LOSS), "goal": goal}
+    """01: "12: goal or service code unknown"; 02, N2: "refusal 12 admits the two new codes"; N4: "Goal 4 is cold surface", "goal
+    5 is cold economy", and each has every service."""
+    for goal in (0, 1, 2, 3, 4, 5, 6, 7, 129, 130, 132, 255):
+        x = {**(GOALS[goal - 1] if goal in HOT + COLD else LOSS), "goal": goal}
         for service in (0, 1, 2, 3, 4, 5, 129, 130, 255):
-            known = goal in (1, 2, 3) and service in SERVICES
-            if goal in (1, 2, 3) or service in SERVICES:
+            known = goal in HOT + COLD and service in SERVICES
+            if goal in HOT + COLD or service in SERVICES:
                 yield f"code-goal-{goal}-service-{service}", {**x, "service": service}, {} if known else 12
 
 
 def ranges():
     """01: "13: a field outside its range": at each end of each range one inside and one outside, where the field's 16 bits hold
-    it. A t of -500 is in its range, but no air in its own is colder: 15."""
-    common = [("D", (100, 65_535), (0, 99)), ("t", (6_500,), (6_501, 32_767, -32_768)),
-              ("ta", (-500, 500), (-501, 501, 32_767, -32_768)), ("L", (1, 2_000), (0, 2_001, 65_535)),
-              ("alpha", (100, 10_000), (0, 99, 10_001, 65_535))]
+    it. 02, N4: a cold t is "down to −1,960". At the other end of its range t is on the wrong side of all air: 15."""
+    hot_t, cold_t = ("t", (6_500,), (6_501, 32_767, -1_960, -32_768)), ("t", (-1_960,), (-1_961, -32_768, 6_501, 32_767))
+    common = [("D", (100, 65_535), (0, 99)), ("ta", (-500, 500), (-501, 501, 32_767, -32_768)),
+              ("L", (1, 2_000), (0, 2_001, 65_535)), ("alpha", (100, 10_000), (0, 99, 10_001, 65_535))]
     prices = [("f", (1, 65_535), (0,)), ("tau", (1, 8_784), (0, 8_785, 65_535)), ("P", (1, 65_535), (0,)),
               ("S", (1, 10_000), (0, 10_001, 65_535))]
     for x in GOALS:
         goal = x["goal"]
         for line in (0, 255, 256, 65_535):
             yield f"range-line-{line}-goal-{goal}", {**x, "line": line}, {}
-        for name, inside, outside in common + (prices if goal == 1 else []):
+        for name, inside, outside in [cold_t if goal in COLD else hot_t] + common + (prices if goal in (1, 5) else []):
             for value in sorted(inside + outside):
                 y = {**x, name: value}
                 if name in ("P", "S") and value <= 1:
                     y["f"] = 10
+                if goal in COLD and name == "ta" and value < 0:
+                    y.update(t=-1_000, aim=-550 if goal == 4 else 0)
                 yield f"range-{name.lower()}-{word(value)}-goal-{goal}", y, {} if value in inside else 13
-        yield f"range-t-minus-501-goal-{goal}", {**x, "t": -501, "ta": -500}, 13
-        yield f"range-t-minus-500-goal-{goal}", {**x, "t": -500, "ta": -500}, 15
+        for t, ta, wanted in [(6_500, 500, 15)] if goal in COLD else [(-501, -500, 13), (-500, -500, 15)]:
+            yield f"range-t-{word(t)}-goal-{goal}", {**x, "t": t, "ta": ta}, wanted
 
 
 def single_bytes():
-    """01: "All files are big-endian": each field by its low byte alone, 255, and by its high byte alone, 256 and 512."""
+    """01: "All files are big-endian": each field by its low byte alone, 255, and by its high byte alone, 256 and 512; a cold aim,
+    which is below ta, by 255, 256 and -256."""
     for x in GOALS:
-        names = ["D", "L", "alpha"] + (["f", "tau", "P", "S"] if x["goal"] == 1 else ["aim"])
-        for name in names:
-            for value in (255, 256, 512):
-                y = {**x, name: value, **(dict(f=100) if name in ("P", "S") else {})}
-                yield f"bytes-{name.lower()}-{value}-goal-{x['goal']}", y, {}
-        for t, ta in ((256, 255), (257, 256), (512, 256), (511, 255), (0, -256), (1, -255), (-254, -256), (-255, -257)):
-            fit = {1: {}, 2: dict(aim=50), 3: dict(aim=(t + ta) // 2)}[x["goal"]]
-            wanted = 16 if x["goal"] == 3 and t - ta == 1 else {}
-            yield f"bytes-t-{word(t)}-ta-{word(ta)}-goal-{x['goal']}", {**x, "t": t, "ta": ta, **fit}, wanted
+        goal = x["goal"]
+        for name in ["D", "L", "alpha"] + (["f", "tau", "P", "S"] if goal in (1, 5) else ["aim"]):
+            deep = goal == 4 and name == "aim"
+            for value in (255, 256, -256) if deep else (255, 256, 512):
+                y = {**x, name: value, **(dict(f=100) if name in ("P", "S") else {}), **(dict(t=-600) if deep else {})}
+                yield f"bytes-{name.lower()}-{word(value)}-goal-{goal}", y, {}
+        pairs = [(256, 255), (257, 256), (512, 256), (511, 255), (0, -256), (1, -255), (-254, -256), (-255, -257)]
+        if goal in COLD:
+            pairs = [(255, 256), (-256, 0), (-255, 1), (-256, -254), (-1_793, -256), (-1_792, -255), (-1_791, 256), (-1_280, 255)]
+        for t, ta in pairs:
+            fit = {2: dict(aim=50), 3: dict(aim=(t + ta) // 2), 4: dict(aim=(t + ta) // 2)}.get(goal, {})
+            wanted = 16 if goal in (3, 4) and abs(t - ta) == 1 else {}
+            yield f"bytes-t-{word(t)}-ta-{word(ta)}-goal-{goal}", {**x, "t": t, "ta": ta, **fit}, wanted
 
 
 def unused():
-    """01: "14: an unused field not zero, or goal 1 with an aim not zero"."""
-    for x in (LOSS, SURFACE):
+    """01: "14: an unused field not zero, or goal 1 with an aim not zero"; 02, N4: "Goal 5 uses offsets 14–21 as goal 1 does and
+    its aim is zero"."""
+    for x in (LOSS, SURFACE, COLD_SURFACE):
         yield f"unused-all-zero-goal-{x['goal']}", x, {}
         for name in UNUSED:
             for value in (1, 256, 65_535):
                 yield f"unused-{name.lower()}-{value}-goal-{x['goal']}", {**x, name: value}, 14
-    for aim in (0, 1, 256, 32_768, 65_535):
-        yield f"unused-aim-{aim}-goal-1", {**WARM, "aim": aim}, 14 if aim else {}
+    for x in (WARM, COLD_ECONOMY):
+        for aim in (0, 1, 256, 32_768, 65_535):
+            yield f"unused-aim-{aim}-goal-{x['goal']}", {**x, "aim": aim}, 14 if aim else {}
 
 
 def warmer():
-    """01: "15: t not above ta." Under goal 3 no aim lies between temperatures a tenth apart: 16 then."""
+    """01: "15: t not above ta." 02, N4: "Here t is below ta." Under goals 3 and 4 no aim lies between temperatures a tenth apart:
+    16 then. A sheet of the other direction is refused, also where its aim lies between the two temperatures."""
     for x in GOALS:
-        for ta in (-300, -1, 0, 200):
+        goal = x["goal"]
+        for ta in (-500, -1, 0, 500) if goal in COLD else (-300, -1, 0, 200):
             for by in (-1, 0, 1, 2):
-                fit = {1: {}, 2: dict(aim=10), 3: dict(aim=ta + 1)}[x["goal"]]
-                wanted = 15 if by <= 0 else 16 if by == 1 and x["goal"] == 3 else {}
-                yield f"t-{word(ta + by)}-air-{word(ta)}-goal-{x['goal']}", {**x, "t": ta + by, "ta": ta, **fit}, wanted
+                t = ta + way(x) * by
+                fit = {2: dict(aim=10), 3: dict(aim=ta + 1), 4: dict(aim=ta - 1)}.get(goal, {})
+                wanted = 15 if by <= 0 else 16 if by == 1 and goal in (3, 4) else {}
+                yield f"t-{word(t)}-air-{word(ta)}-goal-{goal}", {**x, "t": t, "ta": ta, **fit}, wanted
+    for x, goal in ((WARM, 5), (SURFACE, 4), (COLD_ECONOMY, 1), (COLD_SURFACE, 2), (COLD_SURFACE, 3)):
+        yield f"{'cold' if x['goal'] in COLD else 'hot'}-sheet-goal-{goal}", {**x, "goal": goal}, 15
 
 
 def aims():
-    """01: "16: goal 2 with aim 0; goal 3 unless ta < aim < t"; and a loss aim is unsigned."""
+    """01: "16: goal 2 with aim 0; goal 3 unless ta < aim < t"; and a loss aim is unsigned. 02, N4: "with t < aim < ta"."""
     thin = {**LOSS, "L": 1, "t": 230}
     for aim in (0, 1, 2, 32_767, 32_768, 65_535):
         yield f"aim-{aim}-goal-2", {**thin, "aim": aim}, {} if aim else 16
@@ -160,13 +234,17 @@ def aims():
         for aim in sorted({ta - 1, ta, ta + 1, -1, 0, 1, t - 1, t, t + 1, 32_767, -32_768}):
             name = f"aim-{word(aim)}-t-{word(t)}-ta-{word(ta)}-goal-3"
             yield name, {**SURFACE, "t": t, "ta": ta, "aim": aim}, {} if ta < aim < t else 16
+    for t, ta in ((-1_960, -500), (-510, -490), (-10, 10), (-2, 0), (-1, 1), (0, 2), (498, 500)):
+        for aim in sorted({t - 1, t, t + 1, 0, ta - 1, ta, ta + 1} | ({32_767, -32_768} if t == -10 else set())):
+            name = f"aim-{word(aim)}-t-{word(t)}-ta-{word(ta)}-goal-4"
+            yield name, {**COLD_SURFACE, "t": t, "ta": ta, "aim": aim, "L": 10}, {} if t < aim < ta else 16
 
 
 def around_zero():
     """01: "t, ta and a surface aim are signed 16-bit two's complement": each at and around zero, and at the lower end."""
     pairs = [(v + by, v) for v in (-500, -2, -1, 0, 1, 2) for by in (2, 300)]
     pairs += [(v, v - by) for v in (-498, -2, -1, 0, 1, 2) for by in (2, 300) if v - by >= -500]
-    for x in GOALS:
+    for x in GOALS[:3]:
         for t, ta in sorted(set(pairs)):
             fit = {1: dict(f=50_000), 2: dict(aim=10 if t - ta == 2 else 100), 3: dict(aim=ta + up(t - ta, 3))}[x["goal"]]
             yield f"zero-t-{word(t)}-ta-{word(ta)}-goal-{x['goal']}", {**x, "t": t, "ta": ta, **fit}, {}
@@ -176,12 +254,25 @@ def around_zero():
             yield f"zero-aim-{word(aim)}-{SHAPES[flat]}", x, {}
 
 
+def cold_around_zero():
+    """02, N4: "A signed temperature near zero behaves like every other": t, ta, aim and bound are moved by as much, across zero
+    and to both ends of ta, and the thickness stays."""
+    for x in ({**COLD_SURFACE, "D": 20_000, "t": 198, "ta": 200, "aim": 199}, {**COLD_SURFACE, "t": -100, "ta": 200, "aim": 100},
+              {**COLD_ECONOMY, "t": 199, "ta": 200}, {**COLD_ECONOMY, "D": 20_000, "t": -100, "ta": 200}):
+        first = ordinary(x)
+        places = [x["ta"], x["t"], x["aim"] or x["t"], first["bound"]]
+        for by in sorted({-700, 300} | {v - place for place in places for v in (-1, 0, 1)}):
+            t, ta, aim = (x[name] + by for name in ("t", "ta", "aim"))
+            y = {**x, "t": t, "ta": ta, "aim": aim if x["goal"] == 4 else 0}
+            yield f"moved-t-{word(t)}-ta-{word(ta)}-goal-{x['goal']}", y, {**first, "bound": first["bound"] + by}
+
+
 def bounds():
     """01: "Bytes 6–7: surface bound in 0.1 °C, signed": both temperatures moved until the bound is the one named."""
     for flat in (False, True):
         for delta, aim in ((40, 10), (600, 600)):
             x = {**LOSS, "D": 20_000 if flat else 1_590, "t": delta, "ta": 0, "aim": aim}
-            rise = parts(answer(packed(x)))["bound"]
+            rise = fall(x, thickness(x)[0])
             for bound in (-499, -257, -256, -255, -100, -11, -10, -9, -5, -1, 0, 1, 5, 9, 10, 255, 256, 500):
                 ta = bound - rise
                 if -500 <= ta <= 500:
@@ -189,53 +280,93 @@ def bounds():
                     yield name, {**x, "t": ta + delta, "ta": ta}, dict(bound=bound)
 
 
+def cold_bounds():
+    """02, N4: "The surface bound is now a lower one: ta minus the quotient rounded up": both temperatures moved until the bound
+    is the one named, from next to the coldest t up to a tenth below the warmest air."""
+    for flat in (False, True):
+        thick = {**COLD_ECONOMY, "D": 20_000 if flat else 1_590, "t": -40, "ta": 0}
+        thin = {**thick, "t": -1_400, "L": 2_000, "alpha": 100, "f": 5_300}
+        for x, values in ((thick, (-501, -257, -256, -10, -9, -1, 0, 1, 255, 256)), ({**thick, "t": -9, "f": 65_535}, (499,)),
+                          (thin, (-1_793, -1_792, -1_025, -1_024))):
+            k = thickness(x)[0]
+            for bound in values:
+                ta = bound + fall(x, k)
+                name = f"cold-bound-{word(bound)}-ta-{word(ta)}-{SHAPES[flat]}"
+                yield name, {**x, "t": ta + x["t"], "ta": ta}, dict(mm=k, loss=3, surface=0, bound=bound)
+
+
 def two_cases():
     """01: "Tests run in this order": two cases or more hold at once, and the first one decides.
 
-    15 goes with neither 17 nor 18: where t is not above ta, need is not above zero and bare pipe meets it."""
+    15 goes with neither 17 nor 18 but under goals 3 and 4: where Δ is not above zero, neither is need, and bare pipe meets it,
+    unless s is below zero too."""
     for x in GOALS:
-        cases = {12: dict(service=5), 13: dict(alpha=99), 14: dict(aim=1) if x["goal"] == 1 else dict(tau=1), 15: dict(t=200)}
-        if x["goal"] != 1:
-            cases[16] = dict(aim=0 if x["goal"] == 2 else 200)
+        goal, ta = x["goal"], x["ta"]
+        cases = {12: dict(service=5), 13: dict(alpha=99), 14: dict(aim=1) if goal in (1, 5) else dict(tau=1), 15: dict(t=ta)}
+        if goal not in (1, 5):
+            cases[16] = dict(aim=0 if goal == 2 else ta)
         for first, second in combinations(cases, 2):
             y = {**x, **cases[first], **cases[second]}
-            yield f"cases-{first}-and-{second}-goal-{x['goal']}", y, first
+            yield f"cases-{first}-and-{second}-goal-{goal}", y, first
         for second in cases:
-            yield f"cases-11-and-{second}-goal-{x['goal']}", packed({**x, **cases[second]})[:23], 11
+            yield f"cases-11-and-{second}-goal-{goal}", packed({**x, **cases[second]})[:23], 11
         worst = {name: value for second in cases for name, value in cases[second].items()}
-        yield f"cases-11-to-{max(cases)}-goal-{x['goal']}", packed({**x, **worst}) + b"\0", 11
+        yield f"cases-11-to-{max(cases)}-goal-{goal}", packed({**x, **worst}) + b"\0", 11
         for first in range(12, max(cases) - 1):
             worst = {name: value for second in cases if second >= first for name, value in cases[second].items()}
-            yield f"cases-{first}-to-{max(cases)}-goal-{x['goal']}", {**x, **worst}, first
+            yield f"cases-{first}-to-{max(cases)}-goal-{goal}", {**x, **worst}, first
 
-    # Every rung misses at a loss of 0.1 W/m² or a surface 0.1 °C above the air, and at none above it all the more.
+    # Every rung misses at a loss of 0.1 W/m² or a surface 0.1 °C from the air, and at none from it all the more.
     far = {**LOSS, "D": 20_000, "t": 6_500, "L": 2_000, "aim": 1}
     hot = {**far, "goal": 3, "alpha": 100, "aim": 201}
-    # The need is what bare wall provides, whatever L is, and no whole number of nanometres: rung 0 is open.
-    for name, x, last in (("loss", far, 17), ("surface", hot, 17), ("loss", G, 18)):
+    frost = {**hot, "goal": 4, "t": -1_960, "aim": 199}
+    dear = {**COLD_ECONOMY, "t": -1_960, "L": 2_000, "P": 1, "S": 1}
+    # The need of G is what bare wall provides, whatever L is, and no whole number of nanometres: rung 0 is open. Under goal 4 it
+    # is open where the need is 1,000.4 nm and bare wall provides 1,000, a tenth colder too.
+    film = {**COLD_SURFACE, "D": 20_000, "t": -1_960, "ta": 500, "L": 1, "alpha": 10_000, "aim": -1_959}
+    for name, x, last in (("loss", far, 17), ("surface", hot, 17), ("cold-surface", frost, 17), ("cold-economy", dear, 17),
+                          ("loss", G, 18), ("cold-surface", film, 18)):
         yield f"case-{last}-{name}", x, last
         yield f"cases-11-and-{last}-{name}", packed(x) + b"\0", 11
         yield f"cases-12-and-{last}-{name}", {**x, "service": 5}, 12
-        yield f"cases-13-and-{last}-{name}", {**x, "L": 2_001}, 13
-        yield f"cases-14-and-{last}-{name}", {**x, "S": 1}, 14
+        yield f"cases-13-and-{last}-{name}", {**x, **(dict(t=-1_961, aim=-1_960) if x is film else dict(L=2_001))}, 13
+        yield f"cases-14-and-{last}-{name}", {**x, **(dict(aim=1) if x["goal"] == 5 else dict(S=1))}, 14
+    for name, x, last in (("surface", {**frost, "goal": 3, "t": -500, "ta": 500, "aim": 499}, 17),
+                          ("cold-surface", {**hot, "goal": 4}, 17),
+                          ("surface", {**film, "goal": 3, "t": -500, "alpha": 9_999, "aim": -499}, 18),
+                          ("cold-surface", {**film, "t": 6_500, "ta": -500, "aim": 6_499}, 18)):
+        assert ordinary(x) == last
+        yield f"cases-15-and-{last}-{name}", x, 15
     yield "cases-16-and-17-loss", {**far, "aim": 0}, 16
     yield "cases-16-and-17-surface", {**hot, "aim": 200}, 16
+    yield "cases-16-and-17-cold-surface", {**frost, "aim": 200}, 16
     yield "cases-16-and-18-surface", {**G, "goal": 3, "aim": 300}, 16
+    yield "cases-16-and-18-cold-surface", {**G, "goal": 4, "t": 200, "ta": 300, "aim": 200}, 16
     yield "case-15-beyond-if-read-unsigned", {**far, "t": -1, "ta": 0}, 15
+    yield "case-15-cold-if-read-unsigned", {**frost, "t": 0, "ta": -1, "aim": 1}, 15
+
+    # A t below every range, beside a later case.
+    yield "cases-13-by-t-and-14-goal-4", {**COLD_SURFACE, "t": -1_961, "tau": 1}, 13
+    yield "cases-13-by-t-and-16-goal-4", {**COLD_SURFACE, "t": -1_961, "aim": 300}, 13
+    yield "cases-13-by-t-and-14-goal-5", {**COLD_ECONOMY, "t": -1_961, "aim": 1}, 13
 
     # 17 and 18 never hold at once: 18 needs a rung that doesn't miss. The nearest to both: all rungs miss but the last, which is
     # open; and the nearest sheet of more need, where the last one misses too.
     r = Random(17)
-    for flat in (False, True):
-        for goal in (1, 2, 3):
-            x = open_at(r, goal, flat, 300)
-            yield f"last-rung-open-goal-{goal}-{SHAPES[flat]}", x, 18
-            yield f"last-rung-missed-goal-{goal}-{SHAPES[flat]}", beside(x, 300, MISSES), 17
+    for goals in (HOT, COLD):
+        for flat in (False, True):
+            for goal in goals:
+                more = None
+                while more is None:
+                    x = open_at(r, goal, flat, 300)
+                    more = beside(x, 300, MISSES)
+                yield f"last-rung-open-goal-{goal}-{SHAPES[flat]}", x, 18
+                yield f"last-rung-missed-goal-{goal}-{SHAPES[flat]}", more, 17
 
 
 def beside(x, k, wanted):
     """The nearest sheet for which k mm meet, or miss, as wanted: by heat price or aim. None where that isn't allowed."""
-    step = (1 if wanted == MISSES else -1) * (1 if x["goal"] == 1 else -1)
+    step = (1 if wanted == MISSES else -1) * (1 if x["goal"] in (1, 5) else -1)
     while allowed(x) and verdict(x, k) != wanted:
         x = moved(x, step)
     return x if allowed(x) else None
@@ -343,6 +474,20 @@ def checks():
             yield f"loss-{CHECKS[loss]}-surface-{CHECKS[surface]}-{SHAPES[flat]}", x, dict(loss=loss, surface=surface)
 
 
+def cold_checks():
+    """02, N4: "Both checks of a cold sheet read 0 for surface and 3 for loss", with every service, thick and bare, from the
+    coldest t to the warmest. The rules of hot lines would say the same: t is below ta and so below 50.0 °C, where no loss limit
+    is printed, and below the surface limit. So there is no cold sheet with another check, and none near one."""
+    for flat, D in ((False, 890), (True, 20_000)):
+        for service in SERVICES:
+            for t, ta in ((-1_960, 500), (499, 500)):
+                x = {**COLD_ECONOMY, "service": service, "D": D, "t": t, "ta": ta}
+                x = x if service % 2 else {**x, "P": 65_535, "S": 10_000, "f": 1}
+                yield f"checks-t-{word(t)}-ta-{word(ta)}-goal-5-service-{service}-{SHAPES[flat]}", x, dict(loss=3, surface=0)
+            x = {**COLD_SURFACE, "service": service, "D": D, "t": 400, "ta": 500, "aim": 480}
+            yield f"checks-t-400-ta-500-goal-4-service-{service}-{SHAPES[flat]}", x, dict(loss=3, surface=0)
+
+
 def checked(r, goal, flat, hot=False, **wanted):
     """A sheet of up to 100 mm whose checks come out as wanted; a hot one is above the surface limit."""
     while True:
@@ -372,16 +517,25 @@ def both_close(r):
 
 def rungs():
     """01: "The first rung that doesn't miss is the thickness if it meets." "17: all 31 rungs miss." Rungs by name, the last sheet
-    that 300 mm meet, and the first that they miss. Under goal 3 bare pipe never meets, since the aim is below t."""
+    that 300 mm meet, and the first that they miss. Under goals 3 and 4 bare pipe never meets, since the aim is not t: a tenth
+    from t it takes 10 mm."""
     r = Random(31)
-    for flat in (False, True):
-        for goal in (1, 2, 3):
-            for k in (0, 10, 20, 150, 280, 290, 300):
-                if goal != 3 or k > 0:
-                    yield f"thickness-{k}-goal-{goal}-{SHAPES[flat]}", chosen(r, goal, flat, k), dict(mm=k)
-            x = chosen(r, goal, flat, 300)
-            yield f"thickness-300-last-goal-{goal}-{SHAPES[flat]}", beside(aimed(x, have(x, 300)[0]), 300, MEETS), dict(mm=300)
-            yield f"beyond-goal-{goal}-{SHAPES[flat]}", beside(aimed(x, have(x, 300)[0]), 300, MISSES), 17
+    for goals in (HOT, COLD):
+        for flat in (False, True):
+            for goal in goals:
+                end = f"goal-{goal}-{SHAPES[flat]}"
+                for k in (0, 10, 20, 150, 280, 290, 300):
+                    if goal not in (3, 4) or k > 0:
+                        yield f"thickness-{k}-{end}", chosen(r, goal, flat, k), dict(mm=k)
+                last = more = None
+                while not (last and more):
+                    x = chosen(r, goal, flat, 300)
+                    last, more = (beside(aimed(x, have(x, 300)[0]), 300, wanted) for wanted in (MEETS, MISSES))
+                yield f"thickness-300-last-{end}", last, dict(mm=300)
+                yield f"beyond-{end}", more, 17
+    for x in (SURFACE, COLD_SURFACE):
+        for flat, D in ((False, 1_080), (True, 20_000)):
+            yield f"hardly-more-than-bare-goal-{x['goal']}-{SHAPES[flat]}", {**x, "D": D, "aim": x["t"] - way(x)}, dict(mm=10)
 
 
 def open_rungs():
@@ -389,38 +543,35 @@ def open_rungs():
     more, which it misses. The rung above an open one meets, so that "jumping an open one below it" would give an answer."""
     r = Random(18)
     widths = {"small-cylinder": dict(D=150), "cylinder": dict(D=2_730), "wide-cylinder": dict(D=9_999), "flat": dict(D=10_001)}
-    for width, fixed in widths.items():
-        for goal in (1, 2, 3):
-            for place, k in (("first", 0), ("second", 10), ("middle", 120), ("last", 300)):
-                x = open_at(r, goal, width == "flat", k, **fixed)
-                assert k == 300 or verdict(x, k + 10) == MEETS
-                name = f"{place}-goal-{goal}-{width}"
-                yield f"open-{name}", x, 18
-                less, more = beside(x, k, MEETS), beside(x, k, MISSES)
-                if less:
-                    yield f"open-less-{name}", less, ordinary(less)
-                if more:
-                    yield f"open-more-{name}", more, ordinary(more)
+    for goals, places in ((HOT, list(widths)), (COLD, ["small-cylinder", "flat"])):
+        for width in places:
+            for goal in goals:
+                for place, k in (("first", 0), ("second", 10), ("middle", 120), ("last", 300)):
+                    x = open_at(r, goal, width == "flat", k, **widths[width])
+                    assert k == 300 or verdict(x, k + 10) == MEETS
+                    name = f"{place}-goal-{goal}-{width}"
+                    yield f"open-{name}", x, 18
+                    less, more = beside(x, k, MEETS), beside(x, k, MISSES)
+                    if less:
+                        yield f"open-less-{name}", less, ordinary(less)
+                    if more:
+                        yield f"open-more-{name}", more, ordinary(more)
 
 
 def edges():
     """01: "A rung meets if under-have is at or above high need. It misses if over-have is below low need. Otherwise it is open."
     High need equal to under-have and 1 nm above it; low need equal to over-have and 1 nm above it."""
     r = Random(12)
-    for width, D in (("small-cylinder", 150), ("cylinder", 2_730), ("wide-cylinder", 9_999), ("flat", 10_001)):
-        for goal in (1, 2):
-            for k in (0, 10, 120, 300):
-                end = f"{k}-mm-goal-{goal}-{width}"
-                yield f"edge-meets-{end}", edge(r, goal, width == "flat", k, 0, 0, D=D), dict(mm=k)
-                yield f"edge-first-open-{end}", edge(r, goal, width == "flat", k, 0, 1, D=D), 18
-                yield f"edge-last-open-{end}", edge(r, goal, width == "flat", k, 1, 0, D=D), 18
-                yield f"edge-misses-{end}", edge(r, goal, width == "flat", k, 1, 1, D=D), 17 if k == 300 else dict(mm=k + 10)
-
-
-def ordinary(x):
-    """What is wanted of a sheet beside another one: its thickness, or refusal 17 or 18."""
-    found = thickness(x)
-    return 17 if found is None else dict(mm=found[0]) if found[1] == MEETS else 18
+    widths = [("small-cylinder", 150), ("cylinder", 2_730), ("wide-cylinder", 9_999), ("flat", 10_001)]
+    for goals, places in (((1, 2), widths), ((5,), widths[:1])):
+        for width, D in places:
+            for goal in goals:
+                for k in (0, 10, 120, 300):
+                    end = f"{k}-mm-goal-{goal}-{width}"
+                    yield f"edge-meets-{end}", edge(r, goal, width == "flat", k, 0, 0, D=D), dict(mm=k)
+                    yield f"edge-first-open-{end}", edge(r, goal, width == "flat", k, 0, 1, D=D), 18
+                    yield f"edge-last-open-{end}", edge(r, goal, width == "flat", k, 1, 0, D=D), 18
+                    yield f"edge-misses-{end}", edge(r, goal, width == "flat", k, 1, 1, D=D), 17 if k == 300 else dict(mm=k + 10)
 
 
 def equal():
@@ -434,10 +585,13 @@ def equal():
         ("goal-2-flat", 0, {**F, "t": 300}),
         ("goal-2-flat", 50, F),
         ("goal-3-flat", 50, {**F, "goal": 3, "aim": 300}),
+        ("goal-4-flat", 50, {**F, "goal": 4, "t": -900, "aim": 100}),
+        ("goal-5-cylinder", 0, {**pipe, "goal": 5, "L": 759, "f": 16, "tau": 100, "t": 100, "P": 759, "S": 1_000}),
+        ("goal-5-flat", 30, {**wall, "goal": 5, "L": 352, "f": 1_000, "tau": 1_600, "t": -800, "P": 1_100, "S": 2_000}),
     ]
     for name, k, x in sheets:
         assert have(x, k)[0] == have(x, k)[1] and verdict(x, k) == MEETS and verdict(beside(x, k, MISSES), k) == MISSES
-        more = moved(x, 1 if x["goal"] == 1 else -1)
+        more = moved(x, 1 if x["goal"] in (1, 5) else -1)
         yield f"equal-{name}-{k}-mm", x, dict(mm=k)
         yield f"equal-{name}-{k}-mm-more", more, ordinary(more)
 
@@ -446,18 +600,27 @@ def wrong_turns():
     """01: "Halving 3.795 for the flat wall: the standard prints 1.897." "Keeping the product below the root in 64 bits: it can
     need 87." Sheet G shows the one about rounding, and the groups above the ones about the ladder."""
     r = Random(87)
-    for k in (20, 100, 300):
-        x = chosen(r, 1, True, k)
+    for goal, start in ((1, ""), (5, "cold-")):
+        for k in (20, 100, 300):
+            yield f"{start}flat-coefficient-{k}-mm", telling(r, goal, k), dict(mm=k)
+    hot, frost = {**WARM, "t": 6_500, "ta": -500}, {**COLD_ECONOMY, "t": -1_960, "ta": 500}
+    for start, widest, t in (("", hot, 201), ("cold-", frost, 199)):
+        for name, D in (("cylinder", 10_000), ("small-cylinder", 100), ("flat", 10_001)):
+            most = {**widest, "D": D, "L": 2_000, "f": 65_535, "tau": 8_784}
+            least = {**widest, "D": D, "t": t, "ta": 200, "L": 1, "f": 1, "tau": 1}
+            yield f"{start}product-largest-{name}", {**most, "P": 1, "S": 1}, 17
+            yield f"{start}product-large-{name}", {**most, "P": 65_535, "S": 10_000}, {}
+            yield f"{start}product-least-{name}", {**least, "P": 65_535, "S": 10_000}, dict(mm=0)
+
+
+def telling(r, goal, k):
+    """An economy sheet of a flat wall that k mm meet, and would miss with half of 3.795 as the coefficient."""
+    while True:
+        x = chosen(r, goal, True, k)
         x = beside(aimed(x, have(x, k)[0]), k, MEETS)
         n, d = economy_square(x)
-        assert root(n * x["f"] * 18_975**2, d * 18_970**2)[0] > have(x, k)[1]
-        yield f"flat-coefficient-{k}-mm", x, dict(mm=k)
-    most = dict(t=6_500, ta=-500, L=2_000, f=65_535, tau=8_784)
-    for name, D in (("cylinder", 10_000), ("small-cylinder", 100), ("flat", 10_001)):
-        x = {**WARM, **most, "D": D}
-        yield f"product-largest-{name}", {**x, "P": 1, "S": 1}, 17
-        yield f"product-large-{name}", {**x, "P": 65_535, "S": 10_000}, {}
-        yield f"product-least-{name}", {**WARM, "D": D, "t": 201, "L": 1, "f": 1, "tau": 1, "P": 65_535, "S": 10_000}, dict(mm=0)
+        if root(n * x["f"] * 18_975**2, d * 18_970**2)[0] > have(x, k)[1]:
+            return x
 
 
 def held():
@@ -471,6 +634,33 @@ def held():
                 yield f"bound-{name}-t-{word(t)}-ta-{word(ta)}-{SHAPES[flat]}", x, dict(mm=0, bound=t)
 
 
+def cold_held():
+    """02, N4: "ta minus the quotient rounded up, and never below t." On bare pipe it would be t - 1 where have is rounded down.
+    Only goal 5 leaves pipe bare."""
+    for flat in (False, True):
+        for t, ta in ((-1_960, 500), (-1_960, -500), (200, 300), (-100, 0), (-1, 1), (498, 500)):
+            for alpha, name in ((1_163, "held"), (1_000, "exact")):
+                x = {**COLD_ECONOMY, "D": 30_000 if flat else 1_080, "t": t, "ta": ta, "L": 400, "alpha": alpha, "f": 1}
+                n = 10**7 * x["L"] * (1 if flat else 2)
+                assert (ta - up(n * (ta - t), alpha * (n // alpha)) < t) == (name == "held")
+                end = f"t-{word(t)}-ta-{word(ta)}-{SHAPES[flat]}"
+                yield f"cold-bound-{name}-{end}", x, dict(mm=0, loss=3, surface=0, bound=t)
+
+
+def mirrored():
+    """02, N4: "Δ becomes ta − t", "s = ta − aim" and the bound is "ta minus the quotient": a cold sheet has the thickness of the
+    hot one whose t and aim are as far above ta, and its bound is as far from ta."""
+    r = Random(4)
+    for flat in (False, True):
+        for goal, other in ((4, 3), (5, 1)):
+            for k in (10, 40, 100, 200):
+                x = chosen(r, goal, flat, k)
+                twin = {**x, "goal": other, **{name: 2 * x["ta"] - x[name] for name in (("t", "aim") if goal == 4 else ("t",))}}
+                hot = parts(answer(packed(twin)))
+                wanted = dict(mm=hot["mm"], loss=3, surface=0, bound=2 * x["ta"] - hot["bound"])
+                yield f"mirrored-{k}-mm-goal-{goal}-{SHAPES[flat]}", x, wanted
+
+
 def worked():
     """01: "P4: ... so 50. P5: aim 799: ... so 60. P6: aim 145: 300. P7: aim 144: refusal 17. P8: sheet G: ... refusal 18. P9:
     goal 3, aim = t: 16"."""
@@ -482,6 +672,27 @@ def worked():
     yield "worked-p9", {**F, "goal": 3, "aim": F["t"]}, 16
 
 
+def worked_cold():
+    """Cold sheets worked by hand with the equations of 01. A wall like F's: have k × 10⁶ + 5,000,000, need 5.5 × 10⁹ / s, bound
+    ta less 5.5 × 10⁹ / have. Liquid nitrogen: have k × 10⁶ + 200,000, need 4.8 × 10⁸ / s. Goal 5: have k × 10⁶ + 352,000, need
+    18,970 × 1,600, which is 30,352,000, or a little more at a higher price."""
+    wall = {**F, "goal": 4, "t": -900}
+    yield "worked-cold-aim-100", {**wall, "aim": 100}, dict(shape=2, mm=50, loss=3, surface=0, bound=100)
+    yield "worked-cold-aim-101", {**wall, "aim": 101}, dict(shape=2, mm=60, loss=3, surface=0, bound=115)
+    yield "worked-cold-aim-181", {**wall, "aim": 181}, dict(shape=2, mm=290, loss=3, surface=0, bound=181)
+    yield "worked-cold-aim-182", {**wall, "aim": 182}, 17
+    yield "worked-cold-aim-minus-899", {**wall, "aim": -899}, dict(shape=2, mm=10, loss=3, surface=0, bound=-167)
+    yield "worked-cold-aim-minus-900", {**wall, "aim": -900}, 16
+    yield "worked-cold-aim-200", {**wall, "aim": 200}, 16
+    nitrogen = {**wall, "t": -1_960, "ta": 440, "L": 200, "alpha": 10_000}
+    yield "worked-nitrogen-aim-430", {**nitrogen, "aim": 430}, dict(mm=50, bound=430)
+    yield "worked-nitrogen-t-minus-1961", {**nitrogen, "t": -1_961, "aim": 430}, 13
+    paid = {**COLD_ECONOMY, "D": 20_000, "t": -800, "ta": 200, "L": 352, "alpha": 10_000, "tau": 1_600, "P": 1_100, "S": 2_000}
+    yield "worked-cold-economy-f-1000", {**paid, "f": 1_000}, dict(shape=2, mm=30, loss=3, surface=0, bound=188)
+    yield "worked-cold-economy-f-1001", {**paid, "f": 1_001}, dict(shape=2, mm=40, loss=3, surface=0, bound=191)
+    yield "worked-cold-economy-t-200", {**paid, "f": 1_000, "t": 200}, 15
+
+
 def upper_case():
     """The digits A to F: these vectors are printed in upper case."""
     letters = {**LOSS, "line": 0xFEDC, "D": 0xABCD}
@@ -489,11 +700,13 @@ def upper_case():
     yield "upper-case-cylinder", {**ECONOMY, "line": 0xABCD}, dict(mm=20)
     yield "upper-case-below-zero", {**letters, "t": -10, "ta": -300}, dict(mm=10, bound=-225)
     yield "upper-case-refused", {**letters, "service": 0xAF}, 12
+    frost = {**COLD_ECONOMY, "line": 0xFEDC, "D": 0xABCD, "t": -1_366, "ta": -20}
+    yield "upper-case-cold", frost, dict(shape=2, loss=3, surface=0)
 
 
-GROUPS = [diameters, economy, table_4, lengths, codes, ranges, single_bytes, unused, warmer, aims, around_zero, bounds, two_cases,
-          rows, limits, interpolated_limits, surface_limits, checks, rungs, open_rungs, edges, equal, wrong_turns, held, worked,
-          upper_case]
+GROUPS = [diameters, economy, table_4, cold_tables, lengths, codes, ranges, single_bytes, unused, warmer, aims, around_zero,
+          cold_around_zero, bounds, cold_bounds, two_cases, rows, limits, interpolated_limits, surface_limits, checks, cold_checks,
+          rungs, open_rungs, edges, equal, wrong_turns, held, cold_held, mirrored, worked, worked_cold, upper_case]
 
 
 def vectors():
@@ -507,6 +720,7 @@ def vectors():
             if isinstance(wanted, int):
                 assert result == wanted, (name, result, wanted)
             else:
+                wanted = {**ordinary(x), **wanted}
                 assert not isinstance(result, int) and wanted.items() <= parts(result).items(), (name, result, wanted)
             names.add(name)
             yield name, sheet, result

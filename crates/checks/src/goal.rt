@@ -1,7 +1,7 @@
 // The goal of a sheet, and what a goal requires.
 ghost use mathlib.Core.Path.{_≡_};
 ghost use Rattle.requirement.specs.Ranges.{GoalInRange};
-ghost use Rattle.sheet.specs.Sheet.{goalOf};
+ghost use Rattle.sheet.specs.Sheet.{difference, goalOf};
 ghost use Rattle.sheet.specs.Search.{requiredOf};
 ghost use Rattle.sheet.specs.Admitted.{Admitted};
 use fractions::Bounds;
@@ -22,7 +22,10 @@ pub fn goal_of(sheet: Sheet) -> Goal
             Goal::Economy(terms)
         }
         GoalCode::ForLoss => Goal::Loss(sheet.aim),
-        GoalCode::ForSurface => Goal::Surface((sheet.surface_aim().0 - sheet.ambient.0) as u64),
+        GoalCode::ForSurface => {
+            let flow = sheet.flow;
+            Goal::Surface(flow.difference(sheet.surface_aim(), sheet.ambient))
+        }
     }
 }
 
@@ -31,9 +34,14 @@ pub fn required_by(sheet: Sheet, goal: Goal) -> Bounds
     requires { ⌜ Admitted sheet × GoalInRange goal ⌝ }
     ensures { λ r. ⌜ r ≡ requiredOf sheet goal ⌝ }
 {
-    required(
-        sheet.line,
-        (sheet.temperature.0 - sheet.ambient.0) as u64,
-        goal,
-    )
+    required(sheet.line, difference_of(sheet), goal)
+}
+
+// Δ.
+pub(crate) fn difference_of(sheet: Sheet) -> u64
+    requires { ⌜ Admitted sheet ⌝ }
+    ensures { λ r. ⌜ r ≡ difference sheet ⌝ }
+{
+    let flow = sheet.flow;
+    flow.difference(sheet.temperature, sheet.ambient)
 }

@@ -2,16 +2,16 @@
 mod goal;
 
 ghost use mathlib.Core.Path.{_≡_};
-ghost use Prim.Native.Nat.{_*_, _^_, _≤_};
+ghost use Prim.Native.Nat.{_^_, _≤_};
 ghost use Rattle.fractions.specs.Fraction.{_over_};
 ghost use Rattle.fractions.specs.Rounding.{ceiling};
 ghost use Rattle.line.specs.Range.{LineInRange};
-ghost use Rattle.provision.specs.Provided.{film};
-ghost use Rattle.sheet.specs.Answer.{lossCheck, surfaceCheck, surfaceBound};
+ghost use Rattle.sheet.specs.Answer.{lossCheck, surfaceCheck, surfaceDifference, surfaceBound};
 ghost use Rattle.sheet.specs.Admitted.{Admitted};
 use answer::LossCheck;
 use fractions::Bounds;
 use fractions::quotient;
+use goal::difference_of;
 pub use goal::goal_of;
 pub use goal::required_by;
 use limits::loss_limit;
@@ -50,23 +50,21 @@ pub fn surface_check(sheet: Sheet, provided: Bounds) -> Verdict
     )
 }
 
-// The temperature that the surface stays at or below.
+// The temperature that the surface does not lie beyond, as seen from the air.
 pub fn surface_bound(sheet: Sheet, provided: Bounds) -> Temperature
     requires { ⌜ Admitted sheet × (1 ≤ provided .lower) × (provided .lower ≤ 2 ^ 40) ⌝ }
     ensures { λ r. ⌜ r ≡ surfaceBound sheet provided ⌝ }
 {
-    let difference = (sheet.temperature.0 - sheet.ambient.0) as u64;
-    let above = rise(sheet.line, difference, provided.lower);
-    if difference <= above {
-        return sheet.temperature;
-    }
-    Temperature(sheet.ambient.0 + above as u16)
+    let flow = sheet.flow;
+    let most = surface_difference(sheet.line, difference_of(sheet), provided.lower);
+    flow.bound(sheet.temperature, sheet.ambient, most)
 }
 
-// How far the surface is above the air at the most: 2LΔ × 10⁷ / (α × under-have), and on a flat wall LΔ × 10⁷ / (α × under-have), rounded up.
-fn rise(line: Line, difference: u64, lower: u64) -> u64
+// How far the surface lies beyond the air at the most: 2LΔ × 10⁷ / (α × under-have), and on a flat wall LΔ × 10⁷ / (α × under-have), rounded
+// up.
+fn surface_difference(line: Line, difference: u64, lower: u64) -> u64
     requires { ⌜ LineInRange line × (difference ≤ 7_000) × (1 ≤ lower) × (lower ≤ 2 ^ 40) ⌝ }
-    ensures { λ r. ⌜ r ≡ ceiling ((film line .num * difference) over (film line .den * lower)) ⌝ }
+    ensures { λ r. ⌜ r ≡ ceiling (surfaceDifference line difference (lower over 1)) ⌝ }
 {
     quotient(
         line.conduction(difference) * 10_000_000,

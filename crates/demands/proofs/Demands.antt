@@ -2,8 +2,7 @@
 -- Assumes nothing.
 use mathlib.Core.Path.{_≡_, refl, ap, _∙_}
 use mathlib.Core.List.{[]}
-use Prim.Native.Nat.{_<_}
-use native.Mathlib.Nat.{mul-pos}
+use Prim.Native.Nat.{_≤_, _<_}
 use native.Mathlib.Omega.{arith}
 use Rattle.lengths.specs.Ladder.{thicknessAt}
 use Rattle.refusals.specs.Cases.{numbers}
@@ -11,9 +10,6 @@ use Rattle.refusals.specs.Response.{after}
 use Rattle.refusals.proofs.Response.{first-or-complete}
 use Rattle.requirement.specs.Exact.{denominator}
 use Rattle.requirement.proofs.Requirements.{in-range-proper}
-use Rattle.provision.specs.Provided.{film}
-use Rattle.provision.proofs.Enclosure.{lower-provided-den, upper-provided-den}
-use Rattle.provision.proofs.Sizes.{provided-size}
 use Rattle.verdict.proofs.FirstRung.{least-anywhere}
 use Rattle.verdict.proofs.Judgement.{MeetsOn, MissesOn, meets-stays, sound}
 use Rattle.big_endian.specs.Bytes.{bigEndian}
@@ -27,8 +23,9 @@ use Rattle.layout.specs.Layout.{standard}
 use Rattle.layout.proofs.Standard.{standard-usable}
 use Rattle.book.specs.Book.{newBook, withEntry}
 use Rattle.book.specs.Refusals.{makingCases, filingCases, readingCases}
-use Rattle.demands.specs.Demands.{Demand1, Demand2, Demand3, Denominators}
+use Rattle.demands.specs.Demands.{Demand1, Demand2, Demand3, SurfaceBound, Denominators}
 use Rattle.demands.proofs.Sheets.{answered, answer-thickness, sheet-demand-2}
+use Rattle.demands.proofs.Surface.{on-lower, on-upper, figure-den, surface-den, surface-within}
 use Rattle.demands.proofs.ReadingBack.{reads-back, takes-sheets}
 
 pub demand-1 : Demand1
@@ -56,15 +53,23 @@ proper : (s : Sheet) → Admitted s → 0 < denominator (requirementOf s (goalOf
 proper s in-range = in-range-proper (s .line) (difference s) (goalOf s) (in-range .line) (in-range .goal)
 
 pub denominators : Denominators
-unfolding film
 denominators sheet bytes h m hm r =
-    let l = decoded sheet .line in
-    let in-range = answered sheet bytes h .0 .admitted in (
-      proper _ in-range,
-      lower-provided-den l m (omega arith) (omega arith) hm (thicknessAt r),
-      upper-provided-den l m (omega arith) (omega arith) hm (thicknessAt r),
-      mul-pos (omega arith) (provided-size l (thicknessAt r) (in-range .line) (in-range .conductivity-from) (omega arith) .0),
-    )
+    let s = decoded sheet in
+    let in-range = answered sheet bytes h .0 .admitted in
+    let k = thicknessAt r in
+    let le : k .0 ≤ 300 = omega arith in
+    let lower = on-lower s in-range k le m hm in
+    let upper = on-upper s in-range k le m hm in
+    (proper s in-range, lower .pos, upper .pos, figure-den s in-range k le m hm, surface-den s in-range k le m hm _ lower, surface-den s in-range k le m hm _ upper)
+
+pub surface-bound : SurfaceBound
+surface-bound sheet bytes h m hm =
+    let s = decoded sheet in
+    let in-range = answered sheet bytes h .0 .admitted in
+    let got = sheet-demand-2 sheet .answered bytes h in
+    let k = thicknessAt (got .rung) in
+    let le : k .0 ≤ 300 = omega arith in
+    rw (got .thickness, got .bound) (surface-within s in-range k le m hm _ (on-lower s in-range k le m hm), surface-within s in-range k le m hm _ (on-upper s in-range k le m hm))
 
 pub demand-3 : Demand3
 demand-3 sheet bytes h m hm r lt =

@@ -1,4 +1,5 @@
 pub mod Sheets
+pub mod Surface
 pub mod Entries
 pub mod ReadingBack
 pub mod Demands

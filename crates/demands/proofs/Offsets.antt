@@ -1,7 +1,7 @@
 -- The fields stand in the order of their offsets, and the value of each is what stands there.
 -- Assumes nothing.
 use mathlib.Core.Path.{_≡_, refl, ap}
-use mathlib.Core.Bool.{Bool, true, false, cond}
+use mathlib.Core.Bool.{Bool, true, false, cond, _||_}
 use mathlib.Core.Logic.{⊎-elim}
 use mathlib.Core.List.{List, [], _∷_, _++_, map, List·Memᴰ, List·Memᴰ·not-nil, List·Memᴰ·cases-cons}
 use Prim.Native.Nat.{ℕ}
@@ -45,10 +45,10 @@ module _ (b : List ℕ) where
 
   in-order :
       map (λ (f : Field). f .offset) (fields (decoded b)) ≡
-      (0 ∷ 1 ∷ 4 ∷ 6 ∷ 8 ∷ 10 ∷ 12 ∷ 14 ∷ 16 ∷ 18 ∷ 20 ∷ cond (eqb (getD b 0 0) 1) (22 ∷ []) [])
+      (0 ∷ 1 ∷ 4 ∷ 6 ∷ 8 ∷ 10 ∷ 12 ∷ 14 ∷ 16 ∷ 18 ∷ 20 ∷ cond (eqb (getD b 0 0) 1 || eqb (getD b 0 0) 5) (22 ∷ []) [])
   unfolding decoded
   in-order =
-      ap (λ (rest : List ℕ). 0 ∷ 1 ∷ 4 ∷ 6 ∷ 8 ∷ 10 ∷ 12 ∷ rest) (own-order (decoded b) (eqb (getD b 0 0) 1) (eqb (getD b 0 0) 2))
+      ap (λ (rest : List ℕ). 0 ∷ 1 ∷ 4 ∷ 6 ∷ 8 ∷ 10 ∷ 12 ∷ rest) (own-order (decoded b) (eqb (getD b 0 0) 1 || eqb (getD b 0 0) 5) (eqb (getD b 0 0) 2))
 
 pub offsets : Offsets
 offsets = record { order = in-order; values = λ b. each b (fields (decoded b)) (all b) }

@@ -19,6 +19,7 @@ use Rattle.big_endian.proofs.Numerals.{number-bytes}
 use Rattle.big_endian.specs.Bytes.{bigEndian, bytesOf}
 use Rattle.temperatures.specs.Temperature.{decoded as signed, encoded as twosComplement}
 use Rattle.temperatures.proofs.TwosComplement.{turned-back}
+use Rattle.flow.proofs.Differences.{bound-fits}
 use Rattle.answer.specs.declared.Answer.{Answer}
 use Rattle.answer.specs.Answer.{encoded}
 use Rattle.sheet.specs.declared.fields.Sheet.{Sheet}
@@ -88,7 +89,7 @@ answer-to sheet known =
       thickness = answer-thickness s;
       loss = refl;
       surface = refl;
-      bound = encoded-bound (answerOf s (chosen s)) (omega arith);
+      bound = encoded-bound (answerOf s (chosen s)) (bound-fits (s .flow) (s .temperature) (s .ambient) _ (omega (arith, known .admitted .temperature-to)) (omega (arith, known .admitted .ambient-to)));
     }
 
 undecided : (x : Verdict) → isUndecided x ≡ true → x ≡ Undecided

@@ -5,13 +5,20 @@ use mathlib.Core.Path.{_≡_}
 use mathlib.Core.Logic.{_⊎_, _↔_}
 use mathlib.Core.List.{List, [], _∷_, _++_}
 use lib.ListN.{length, getD}
+use Rattle.fractions.specs.Fraction.{Fraction, _over_, plus, _≼_}
+use Rattle.lengths.specs.declared.units.Diameter.{Diameter}
+use Rattle.lengths.specs.declared.units.Thickness.{Thickness}
+use Rattle.lengths.specs.Units.{millimetres}
 use Rattle.lengths.specs.Ladder.{rungs, thicknessAt}
+use Rattle.temperatures.specs.declared.Temperature.{Temperature}
 use Rattle.temperatures.specs.Temperature.{decoded as signed}
 use Rattle.quadrature.specs.Cuttings.{lowerSum, upperSum}
+use Rattle.flow.specs.declared.Flow.{Flow}
+use Rattle.flow.specs.declared.Flow.the-variants.{Outward, Inward}
 use Rattle.refusals.specs.Cases.{numbers, NoneHolds}
 use Rattle.refusals.specs.Response.{refused, complete, FirstOrComplete}
 use Rattle.line.specs.Line.{shapeOf}
-use Rattle.provision.specs.Provided.{film, provided}
+use Rattle.provision.specs.Provided.{provided}
 use Rattle.provision.specs.Exact.{providedExactly}
 use Rattle.requirement.specs.Exact.{Meets, Misses, denominator}
 use Rattle.verdict.specs.declared.Verdict.{Verdict}
@@ -19,9 +26,9 @@ use Rattle.verdict.specs.declared.Verdict.the-variants.{Sufficient, Insufficien
 use Rattle.answer.specs.Answer.{shapeCode, checkCode, lossCode}
 use Rattle.big_endian.specs.Bytes.{bigEndian}
 use Rattle.sheet.specs.declared.fields.Sheet.{Sheet}
-use Rattle.sheet.specs.Sheet.{decoded, goalOf}
+use Rattle.sheet.specs.Sheet.{decoded, difference, goalOf}
 use Rattle.sheet.specs.Search.{requirementOf, verdicts}
-use Rattle.sheet.specs.Answer.{lossCheck, surfaceCheck, surfaceBound, answer}
+use Rattle.sheet.specs.Answer.{lossCheck, surfaceCheck, surfaceDifference, surfaceBound, answer}
 use Rattle.sheet.specs.Refusals.{fieldCases, cases, responseTo}
 use Rattle.layout.specs.declared.offsets.Layout.{Layout}
 use Rattle.layout.specs.Layout.{standard}
@@ -131,13 +138,35 @@ Demand3 =
     (Meets required (providedExactly (lowerSum m) (s .line) (thicknessAt r)) ×
     ((r ≡ 0) ⊎ Misses required (providedExactly (upperSum m) (s .line) (thicknessAt (r - 1)))))
 
--- What demand 3 compares are fractions: no denominator of need, or of have by either sum, is 0. Nor is that of the surface bound, which
--- demand 2 speaks of: α × under-have.
+-- how far the surface lies beyond the air by the exact equation, with a thickness k: exact have in place of under-have. This is (5) and (6)
+-- of 000, and on a cold line 6.4.
+abbrev pub surfaceExactly : (Diameter → Diameter → Fraction) → Sheet → Thickness → Fraction
+surfaceExactly sum s k = surfaceDifference (s .line) (difference s) (providedExactly sum (s .line) k)
+
+-- A surface that lies d beyond the air, of temperature ta, does not lie beyond a bound: outward it is not above it, ta + d ≤ bound, and inward
+-- it is not below it, bound ≤ ta − d.
+abbrev pub NotBeyond : Flow → Temperature → Fraction → Temperature → Type 0
+NotBeyond Outward ta d bound = plus (ta .0 over 1) d ≼ bound .0 over 1
+NotBeyond Inward ta d bound = plus (bound .0 over 1) d ≼ ta .0 over 1
+
+-- The surface bound is what its name says: with the thickness given, the surface by the exact equation, on every cutting and by either sum,
+-- does not lie beyond it.
+abbrev pub SurfaceBound : Type 0
+SurfaceBound =
+    (sheet bytes : List ℕ) → responseTo sheet ≡ complete bytes → (m : ℕ) → 1 ≤ m →
+    let s = decoded sheet in
+    let k = millimetres (bigEndian bytes 2 2) in
+    let bound = signed (bigEndian bytes 6 2) in
+    NotBeyond (s .flow) (s .ambient) (surfaceExactly (lowerSum m) s k) bound × NotBeyond (s .flow) (s .ambient) (surfaceExactly (upperSum m) s k) bound
+
+-- What demand 3 and the surface bound compare are fractions: no denominator of need is 0, nor of have by either sum, nor of what the surface
+-- differs by, for under-have or for exact have.
 abbrev pub Denominators : Type 0
 Denominators =
     (sheet bytes : List ℕ) → responseTo sheet ≡ complete bytes → (m : ℕ) → 1 ≤ m → (r : ℕ) →
     let s = decoded sheet in
+    let k = thicknessAt r in
     (0 < denominator (requirementOf s (goalOf s))) ×
-    (0 < providedExactly (lowerSum m) (s .line) (thicknessAt r) .den) ×
-    (0 < providedExactly (upperSum m) (s .line) (thicknessAt r) .den) ×
-    (0 < film (s .line) .den * provided (s .line) (thicknessAt r) .lower)
+    (0 < providedExactly (lowerSum m) (s .line) k .den) × (0 < providedExactly (upperSum m) (s .line) k .den) ×
+    (0 < surfaceDifference (s .line) (difference s) (provided (s .line) k .lower over 1) .den) ×
+    (0 < surfaceExactly (lowerSum m) s k .den) × (0 < surfaceExactly (upperSum m) s k .den)

@@ -17,10 +17,10 @@ standsAt b offset =
     cond (ltb offset 2) (getD b offset 0) (cond (eqb offset 6 || eqb offset 8) (signed (bigEndian b offset 2) .0) (bigEndian b offset 2))
 
 pub record Offsets : Type 0 where
-  -- the list of fields and ranges has every field but the line number, in the order of their offsets; the aim is in it for goal 1 only
+  -- the list of fields and ranges has every field but the line number, in the order of their offsets; the aim is in it for goals 1 and 5 only
   pub order :
       (b : List ℕ) →
       map (λ (f : Field). f .offset) (fields (decoded b)) ≡
-      (0 ∷ 1 ∷ 4 ∷ 6 ∷ 8 ∷ 10 ∷ 12 ∷ 14 ∷ 16 ∷ 18 ∷ 20 ∷ cond (eqb (getD b 0 0) 1) (22 ∷ []) [])
+      (0 ∷ 1 ∷ 4 ∷ 6 ∷ 8 ∷ 10 ∷ 12 ∷ 14 ∷ 16 ∷ 18 ∷ 20 ∷ cond (eqb (getD b 0 0) 1 || eqb (getD b 0 0) 5) (22 ∷ []) [])
   -- the value of each is what stands at its offset
   pub values : (b : List ℕ) (f : Field) → List·Memᴰ f (fields (decoded b)) → f .value ≡ standsAt b (f .offset)

@@ -18,7 +18,7 @@ use Rattle.answer.specs.Answer.{encoded}
 use Rattle.sheet.specs.Answer.{lossCheck, surfaceCheck, surfaceBound, answerOf}
 use Rattle.worked.proofs.Examples.{low, high}
 use Rattle.book.specs.Refusals.{sameBytes}
-use Rattle.method.specs.Method.{Cylinder, Hotter, Between, FlatWall, BetweenRows, Entry, Method}
+use Rattle.method.specs.Method.{Cylinder, Hotter, Between, FlatWall, BetweenRows, Cold, ColdWall, Entry, Method}
 
 the-cylinder : Cylinder
 unfolding summed lowerStep upperStep least insulation film insulationBounds filmBounds provided requirement enclosing firstNotInsufficient bigEndian bytesOf decoded neighbours lossLimit lossCheck surfaceCheck surfaceBound encoded answerOf firstFault respond
@@ -110,6 +110,15 @@ between-rows =
       answer-by-row = refl;
     }
 
+the-cold-line : Cold
+unfolding summed lowerStep upperStep least insulation film insulationBounds filmBounds provided requirement enclosing firstNotInsufficient bigEndian bytesOf decoded neighbours lossLimit lossCheck surfaceCheck surfaceBound encoded answerOf firstFault respond
+the-cold-line = record { difference = refl; required = rw (low, high); checks = (refl, refl); bound = refl; answer = rw (low, high) }
+
+the-cold-wall : ColdWall
+unfolding summed lowerStep upperStep least insulation film insulationBounds filmBounds provided requirement enclosing firstNotInsufficient bigEndian bytesOf decoded neighbours lossLimit lossCheck surfaceCheck surfaceBound encoded answerOf firstFault respond
+the-cold-wall =
+    record { temperatures = (refl, refl, refl); differences = (refl, refl); required = refl; at-20 = refl; at-30 = refl; bound = refl; answer = refl }
+
 an-entry : Entry
 unfolding summed lowerStep upperStep least insulation film insulationBounds filmBounds provided requirement enclosing firstNotInsufficient bigEndian bytesOf decoded neighbours lossLimit lossCheck surfaceCheck surfaceBound encoded answerOf firstFault respond sameBytes
 an-entry = record { size = refl; offsets = (refl, refl, refl); sizes = (refl, refl); read = refl }
@@ -122,5 +131,7 @@ method =
       between-millimetres = between-millimetres;
       the-flat-wall = the-flat-wall;
       between-rows = between-rows;
+      the-cold-line = the-cold-line;
+      the-cold-wall = the-cold-wall;
       an-entry = an-entry;
     }

@@ -20,7 +20,7 @@ use Rattle.refusals.specs.Response.{complete}
 use Rattle.big_endian.specs.Bytes.{bytesOf}
 use Rattle.limits.specs.Limits.{row, table, limitOf, neighbours, interpolated, lossLimit, surfaceLimit}
 use Rattle.limits.specs.FlatTable.{flatTable, place}
-use Rattle.sheet.specs.Sheet.{decoded, difference, goalOf}
+use Rattle.sheet.specs.Sheet.{decoded, difference, surfaceAim, goalOf}
 use Rattle.sheet.specs.Search.{requiredOf, chosen}
 use Rattle.sheet.specs.Answer.{surfaceBound}
 use Rattle.sheet.specs.Refusals.{responseTo}
@@ -45,6 +45,13 @@ flat = sheetF 2 800
 -- the same wall with another surface coefficient and aim, for any service
 abbrev pub wall : ℕ → List ℕ
 wall service = 2 ∷ service ∷ 0 ∷ 8 ∷ 46 ∷ 224 ∷ 5 ∷ 20 ∷ 0 ∷ 200 ∷ 1 ∷ 144 ∷ 4 ∷ 139 ∷ (bytesOf 8 0 ++ (4 ∷ 36 ∷ []))
+
+-- the cylinder as a cold line, and a cold wall
+abbrev pub cold : List ℕ
+cold = 5 ∷ 1 ∷ 0 ∷ 3 ∷ 1 ∷ 14 ∷ 0 ∷ 70 ∷ 0 ∷ 207 ∷ 1 ∷ 77 ∷ 8 ∷ 0 ∷ 29 ∷ 76 ∷ 11 ∷ 64 ∷ 6 ∷ 64 ∷ 8 ∷ 248 ∷ 0 ∷ 0 ∷ []
+
+abbrev pub coldWall : List ℕ
+coldWall = 4 ∷ 1 ∷ 0 ∷ 4 ∷ 46 ∷ 224 ∷ 255 ∷ 146 ∷ 0 ∷ 10 ∷ 1 ∷ 144 ∷ 3 ∷ 32 ∷ (bytesOf 8 0 ++ (255 ∷ 246 ∷ []))
 
 abbrev pub book : List ℕ
 book = (0 ∷ 2 ∷ 0 ∷ 2 ∷ []) ++ cylinder ++ flat ++ (0 ∷ 1 ∷ 0 ∷ 20 ∷ 3 ∷ 0 ∷ 0 ∷ 77 ∷ []) ++ (0 ∷ 2 ∷ 0 ∷ 50 ∷ 0 ∷ 0 ∷ 1 ∷ 44 ∷ [])
@@ -135,6 +142,24 @@ pub record BetweenRows : Type 0 where
   pub answer : responseTo (wall 3) ≡ complete (0 ∷ 2 ∷ 0 ∷ 40 ∷ 0 ∷ 0 ∷ 1 ∷ 32 ∷ [])
   pub answer-by-row : responseTo (wall 1) ≡ complete (0 ∷ 2 ∷ 0 ∷ 40 ∷ 1 ∷ 0 ∷ 1 ∷ 32 ∷ [])
 
+pub record Cold : Type 0 where
+  pub difference : difference (decoded cold) ≡ 137
+  pub required : requiredOf (decoded cold) (goalOf (decoded cold)) ≡ bounds 62_154_864 62_154_865
+  pub checks : (lossLimit 1 (tenthsCelsius 70) ≡ 0) × (surfaceLimit (tenthsCelsius 207) ≡ tenthsCelsius 500)
+  pub bound : surfaceBound (decoded cold) (bounds 64_145_256 64_145_354) ≡ tenthsCelsius 200
+  pub answer : responseTo cold ≡ complete (0 ∷ 1 ∷ 0 ∷ 20 ∷ 3 ∷ 0 ∷ 0 ∷ 200 ∷ [])
+
+pub record ColdWall : Type 0 where
+  -- −110, 10 and −10 in the count of temperatures
+  pub temperatures : (decoded coldWall .temperature .0 ≡ 32_658) × (decoded coldWall .ambient .0 ≡ 32_778) × (surfaceAim (decoded coldWall) .0 ≡ 32_758)
+  pub differences : (difference (decoded coldWall) ≡ 120) × (goalOf (decoded coldWall) ≡ Surface 20)
+  pub required : requiredOf (decoded coldWall) (goalOf (decoded coldWall)) ≡ bounds 30_000_000 30_000_000
+  pub at-20 : provided (decoded coldWall .line) (millimetres 20) ≡ bounds 25_000_000 25_000_000
+  pub at-30 : provided (decoded coldWall .line) (millimetres 30) ≡ bounds 35_000_000 35_000_000
+  -- −8 in the count of temperatures
+  pub bound : surfaceBound (decoded coldWall) (bounds 35_000_000 35_000_000) .0 ≡ 32_760
+  pub answer : responseTo coldWall ≡ complete (0 ∷ 2 ∷ 0 ∷ 30 ∷ 3 ∷ 0 ∷ 255 ∷ 248 ∷ [])
+
 pub record Entry : Type 0 where
   pub size : bytesFor standard 2 ≡ 68
   pub offsets : (sheetOffset standard 1 ≡ 28) × (answerOffset standard 2 0 ≡ 52) × (answerOffset standard 2 1 ≡ 60)
@@ -147,4 +172,6 @@ pub record Method : Type 0 where
   pub between-millimetres : Between
   pub the-flat-wall : FlatWall
   pub between-rows : BetweenRows
+  pub the-cold-line : Cold
+  pub the-cold-wall : ColdWall
   pub an-entry : Entry

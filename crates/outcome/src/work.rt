@@ -55,8 +55,9 @@ fn work_out_sheet(sheet: Sheet) -> Outcome
     if sheet.zero_fault().found() {
         return Outcome::Refused(Refusal::NotZero);
     }
-    if sheet.temperature.0 <= sheet.ambient.0 {
-        return Outcome::Refused(Refusal::NotWarmer);
+    let flow = sheet.flow;
+    if !flow.beyond(sheet.temperature, sheet.ambient) {
+        return Outcome::Refused(Refusal::NoDrivingDifference);
     }
     if sheet.invalid_aim() {
         return Outcome::Refused(Refusal::InvalidAim);

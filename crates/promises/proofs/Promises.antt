@@ -4,6 +4,7 @@ use Rattle.limits.proofs.FlatTable.{placement}
 use Rattle.promises.specs.Promises.{Promises}
 use Rattle.promises.proofs.Shares.{shares}
 use Rattle.promises.proofs.Limits.{limits}
+use Rattle.promises.proofs.ColdLines.{cold-lines}
 
 pub promises : Promises
-promises = record { shares = shares; limits = limits; flat-list = placement }
+promises = record { shares = shares; limits = limits; flat-list = placement; cold-lines = cold-lines }

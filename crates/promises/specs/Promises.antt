@@ -3,6 +3,7 @@
 use Rattle.limits.specs.FlatTable.{Placement}
 use Rattle.promises.specs.Shares.{Shares}
 use Rattle.promises.specs.Limits.{Limits}
+use Rattle.promises.specs.ColdLines.{ColdLines}
 
 pub record Promises : Type 0 where
   -- N1, yearly share from interest and years
@@ -11,3 +12,5 @@ pub record Promises : Type 0 where
   pub limits : Limits
   -- N3, one flat list for the loss table
   pub flat-list : Placement
+  -- N4, cold lines
+  pub cold-lines : ColdLines

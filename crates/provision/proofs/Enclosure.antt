@@ -63,6 +63,11 @@ module _ (l : Line) (m : ℕ) (hα : 1 ≤ l .coefficient) (hD : 1 ≤ l .diamet
   unfolding providedExactly
   upper-provided-den k = quotients-den (fromSum (upperSum m)) k (upper-den m _ _ hm hD)
 
+  -- what is provided is no less than the film
+  pub film-within : (sum : Diameter → Diameter → Fraction) (k : Thickness) → film l ≼ providedExactly sum l k
+  unfolding providedExactly
+  film-within sum k = omega arith
+
   pub provided-below : (k : Thickness) → provided l k .lower over 1 ≼ providedExactly (lowerSum m) l k
   unfolding provided insulationBounds filmBounds providedExactly
   provided-below k =

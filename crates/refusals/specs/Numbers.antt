@@ -2,14 +2,14 @@
 -- Assumes nothing.
 use Prim.Native.Nat.{ℕ}
 use Rattle.refusals.specs.declared.Refusal.{Refusal}
-use Rattle.refusals.specs.declared.Refusal.the-variants.{SheetLength, UnknownCode, OutOfRange, NotZero, NotWarmer, InvalidAim, NoneSufficient, TooClose, BookSize, CountAboveCapacity, NoSuchEntry, BookFull, EntryUnsound, RateOrTerm, ShareUndecided}
+use Rattle.refusals.specs.declared.Refusal.the-variants.{SheetLength, UnknownCode, OutOfRange, NotZero, NoDrivingDifference, InvalidAim, NoneSufficient, TooClose, BookSize, CountAboveCapacity, NoSuchEntry, BookFull, EntryUnsound, RateOrTerm, ShareUndecided}
 
 abbrev pub numberOf : Refusal → ℕ
 numberOf SheetLength = 11
 numberOf UnknownCode = 12
 numberOf OutOfRange = 13
 numberOf NotZero = 14
-numberOf NotWarmer = 15
+numberOf NoDrivingDifference = 15
 numberOf InvalidAim = 16
 numberOf NoneSufficient = 17
 numberOf TooClose = 18

@@ -9,8 +9,9 @@ pub enum Refusal {
     UnknownCode,
     OutOfRange,
     NotZero,
-    // The pipe is not warmer than the air; a loss aim of 0, or a surface aim that is not between the air and the pipe.
-    NotWarmer,
+    // No temperature difference that drives heat the way of the goal; a loss aim of 0, or a surface aim that is not between the air and the
+    // pipe.
+    NoDrivingDifference,
     InvalidAim,
     // No thickness of the ladder is enough; the first that may be enough is not known to be.
     NoneSufficient,
@@ -42,7 +43,7 @@ impl Refusal {
             Refusal::UnknownCode => 12,
             Refusal::OutOfRange => 13,
             Refusal::NotZero => 14,
-            Refusal::NotWarmer => 15,
+            Refusal::NoDrivingDifference => 15,
             Refusal::InvalidAim => 16,
             Refusal::NoneSufficient => 17,
             Refusal::TooClose => 18,

@@ -13,8 +13,8 @@ pub record EconomyInRange (e : EconomyTerms) : Type 0 where
   pub share-from : 1 ≤ e .share
   pub share-to : e .share ≤ 10_000
 
--- a surface rises by no more than the largest temperature difference
+-- a surface is no farther from the air than the largest temperature difference
 abbrev pub GoalInRange : Goal → Type 0
 GoalInRange (Economy e) = EconomyInRange e
 GoalInRange (Loss aim) = 1 ≤ aim
-GoalInRange (Surface rise) = (1 ≤ rise) × (rise ≤ 7_000)
+GoalInRange (Surface s) = (1 ≤ s) × (s ≤ 7_000)

@@ -23,7 +23,7 @@ pub enum Goal {
     Economy(EconomyTerms),
     // A heat loss, in 0.1 W/m².
     Loss(u64),
-    // A rise of the surface's temperature above the air's, in 0.1 °C.
+    // How far the surface's temperature is from the air's, in 0.1 °C.
     Surface(u64),
 }
 

@@ -3,11 +3,16 @@
 use mathlib.Core.Path.{_≡_, refl}
 use mathlib.Core.Bool.{false, _&&_, and-eq-true-iff}
 use mathlib.Core.List.{_++_}
-use Prim.Native.Nat.{_≤_, _<_}
-use native.Mathlib.Nat.{pos-of-ne-zero}
+use Prim.Native.Nat.{_+_, _-_, _≤_}
+use native.Mathlib.Nat.{le-trans, pos-of-ne-zero}
 use native.Mathlib.Omega.{arith}
-use lib.Dec.{ltb}
-use borrow.Author.Tests.{eqb-false, leb-false, ltb-true, not-false}
+use borrow.Author.Tests.{eqb-false, not-false}
+use Rattle.temperatures.specs.declared.Temperature.{Temperature}
+use Rattle.temperatures.specs.Temperature.{zeroDegrees}
+use Rattle.flow.specs.declared.Flow.{Flow}
+use Rattle.flow.specs.declared.Flow.the-variants.{Outward, Inward}
+use Rattle.flow.specs.Flow.{leastTemperature, beyond, temperatureDifference}
+use Rattle.flow.proofs.Differences.{differs, no-more}
 use Rattle.refusals.specs.Cases.{NoneHolds}
 use Rattle.requirement.specs.Ranges.{GoalInRange}
 use Rattle.sheet.specs.declared.fields.GoalCode.{GoalCode}
@@ -37,10 +42,17 @@ goal-in-range s ForEconomy fields near aim =
     }
 goal-in-range s ForLoss fields near aim = pos-of-ne-zero (eqb-false _ _ aim)
 goal-in-range s ForSurface fields near aim =
-    let above = ltb (s .ambient .0) (surfaceAim s .0) in
-    let below = ltb (surfaceAim s .0) (s .temperature .0) in
-    let both = and-eq-true-iff above below .0 (not-false (above && below) aim) in
-    omega (arith, ltb-true (s .ambient .0) (surfaceAim s .0) (both .0), ltb-true (surfaceAim s .0) (s .temperature .0) (both .1))
+    let from-air = beyond (s .flow) (surfaceAim s) (s .ambient) in
+    let to-pipe = beyond (s .flow) (s .temperature) (surfaceAim s) in
+    let both = and-eq-true-iff from-air to-pipe .0 (not-false (from-air && to-pipe) aim) in
+    (differs (s .flow) (surfaceAim s) (s .ambient) (both .0), le-trans (no-more (s .flow) (s .temperature) (surfaceAim s) (s .ambient) (both .1)) near)
+
+-- the largest difference of a hot line, and that of a cold one
+near-enough :
+    (f : Flow) (t ta : Temperature) → leastTemperature f ≤ t .0 → t .0 ≤ zeroDegrees + 6_500 → zeroDegrees - 500 ≤ ta .0 → ta .0 ≤ zeroDegrees + 500 →
+    temperatureDifference f t ta ≤ 7_000
+near-enough Outward t ta from to air-from air-to = omega arith
+near-enough Inward t ta from to air-from air-to = omega arith
 
 pub admitted : (s : Sheet) → NoneHolds (valueCases s) → Admitted s
 unfolding NoneHolds
@@ -53,16 +65,16 @@ admitted s f =
     let ambient = inside 13 _ _ (temperature .rest) refl in
     let conductivity = inside 13 _ _ (ambient .rest) refl in
     let coefficient = inside 13 _ _ (conductivity .rest) refl in
-    let warmer : s .ambient .0 < s .temperature .0 = leb-false _ _ (f .1 .1 .1 .0) in
-    let near : difference s ≤ 7_000 = omega (arith, temperature .most, ambient .least) in
+    let near : difference s ≤ 7_000 = near-enough (s .flow) (s .temperature) (s .ambient) (temperature .least) (temperature .most) (ambient .least) (ambient .most) in
     record {
       service-from = service .least;
       service-to = service .most;
       line = record { diameter-from = diameter .least; conductivity-to = conductivity .most; coefficient-from = coefficient .least; coefficient-to = coefficient .most };
       conductivity-from = conductivity .least;
-      warmer = warmer;
       temperature-to = temperature .most;
+      ambient-from = ambient .least;
       ambient-to = ambient .most;
+      difference-from = differs (s .flow) (s .temperature) (s .ambient) (not-false _ (f .1 .1 .1 .0));
       difference-to = near;
       goal = goal-in-range s (s .goal) (coefficient .rest) near (f .1 .1 .1 .1 .0);
     }

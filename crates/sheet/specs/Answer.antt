@@ -1,14 +1,16 @@
--- The answer to a sheet. 01, "The answer: 8 bytes".
+-- The answer to a sheet. 01, "The answer: 8 bytes", and 02, N2 and N4.
 -- Assumes nothing.
-use Prim.Native.Nat.{ℕ, _+_, _-_, _*_, min}
+use Prim.Native.Nat.{ℕ, _-_, _*_}
 use mathlib.Core.Bool.{cond}
 use mathlib.Core.List.{List}
 use lib.Dec.{leb, eqb}
 use Rattle.fractions.specs.declared.Bounds.{Bounds}
-use Rattle.fractions.specs.Fraction.{_over_}
+use Rattle.fractions.specs.Fraction.{Fraction, _over_}
 use Rattle.fractions.specs.Rounding.{ceiling}
 use Rattle.lengths.specs.Ladder.{thicknessAt}
 use Rattle.temperatures.specs.declared.Temperature.{Temperature}
+use Rattle.flow.specs.Flow.{bounded}
+use Rattle.line.specs.declared.Line.{Line}
 use Rattle.line.specs.Line.{shapeOf}
 use Rattle.requirement.specs.declared.Goal.the-variants.{Loss, Surface}
 use Rattle.provision.specs.Provided.{film, provided}
@@ -37,12 +39,16 @@ surfaceCheck s p =
     let limit = surfaceLimit (s .ambient) in
     cond (leb (s .temperature .0) (limit .0)) Sufficient (judged p (requiredOf s (Surface (limit .0 - s .ambient .0))))
 
--- "Surface bound: ta plus 2L × 10⁷ × Δ / (α × under-have) rounded up, flat with L in place of 2L, and never above t."
--- The film is 2L × 10⁷ / α, and on a flat wall L × 10⁷ / α.
+-- how far the surface lies beyond the air, p being provided: "2L × 10⁷ × Δ / (α × under-have)", "flat with L in place of 2L". The film is
+-- 2L × 10⁷ / α, and on a flat wall L × 10⁷ / α.
+abbrev pub surfaceDifference : Line → ℕ → Fraction → Fraction
+surfaceDifference l Δ p = (film l .num * Δ * p .den) over (film l .den * p .num)
+
+-- "Surface bound: ta plus 2L × 10⁷ × Δ / (α × under-have) rounded up, flat with L in place of 2L, and never above t."; on a cold line "ta
+-- minus the quotient rounded up, and never below t" (02, N4)
 unfoldable pub surfaceBound : Sheet → Bounds → Temperature
 surfaceBound s p =
-    let q = film (s .line) in
-    record { 0 = min (s .temperature .0) (s .ambient .0 + ceiling ((q .num * difference s) over (q .den * p .lower))) }
+    bounded (s .flow) (s .temperature) (s .ambient) (ceiling (surfaceDifference (s .line) (difference s) (p .lower over 1)))
 
 -- the answer with the rung of index r
 unfoldable pub answerOf : Sheet → ℕ → Answer

@@ -1,4 +1,4 @@
--- The ranges of a sheet's fields, and the first field that is outside its range. 01, "The sheet: 24 bytes", and 02, N2.
+-- The ranges of a sheet's fields, and the first field that is outside its range. 01, "The sheet: 24 bytes", and 02, N2 and N4.
 -- Assumes nothing.
 use Prim.Native.Nat.{ℕ, _+_, _-_}
 use mathlib.Core.Bool.{Bool, true, false, cond}
@@ -8,6 +8,7 @@ use Rattle.refusals.specs.declared.Refusal.the-variants.{UnknownCode, OutOfRang
 use Rattle.refusals.specs.Numbers.{numberOf}
 use Rattle.refusals.specs.Range.{outside}
 use Rattle.temperatures.specs.Temperature.{zeroDegrees}
+use Rattle.flow.specs.Flow.{leastTemperature}
 use Rattle.sheet.specs.declared.fields.Sheet.{Sheet}
 use Rattle.sheet.specs.declared.faults.Fault.{Fault}
 use Rattle.sheet.specs.declared.faults.Fault.the-variants.{None, At}
@@ -33,15 +34,16 @@ ranged o x l m = record { refusal = numberOf OutOfRange; offset = o; value = x; 
 abbrev pub unused : ℕ → ℕ → Field
 unused o x = record { refusal = numberOf NotZero; offset = o; value = x; least = 0; most = 0 }
 
--- "1 economy, 2 loss, 3 surface", "1 year-round, 2 seasonal", and "service 3 (year-round) or 4 (seasonal)" (02, N2)
+-- "1 economy, 2 loss, 3 surface", "1 year-round, 2 seasonal", "service 3 (year-round) or 4 (seasonal)" (02, N2), "Goal 4 is cold surface",
+-- "goal 5 is cold economy" (02, N4)
 abbrev pub codes : Sheet → List Field
-codes s = coded 0 (s .code) 1 3 ∷ coded 1 (s .service) 1 4 ∷ []
+codes s = coded 0 (s .code) 1 5 ∷ coded 1 (s .service) 1 4 ∷ []
 
 -- D, t, ta, L and α
 abbrev pub lineFields : Sheet → List Field
 lineFields s =
     ranged 4 (s .line .diameter .0) 100 65_535 ∷
-    ranged 6 (s .temperature .0) (zeroDegrees - 500) (zeroDegrees + 6_500) ∷
+    ranged 6 (s .temperature .0) (leastTemperature (s .flow)) (zeroDegrees + 6_500) ∷
     ranged 8 (s .ambient .0) (zeroDegrees - 500) (zeroDegrees + 500) ∷
     ranged 10 (s .line .conductivity) 1 2_000 ∷
     ranged 12 (s .line .coefficient) 100 10_000 ∷ []
@@ -51,7 +53,7 @@ abbrev pub usedIf : Bool → ℕ → ℕ → ℕ → ℕ → Field
 usedIf true o x l m = ranged o x l m
 usedIf false o x l m = unused o x
 
--- f, τ, P and S: "Offsets 14–21 are used for goal 1 only and are zero otherwise"
+-- f, τ, P and S: "Offsets 14–21 are used for goal 1 only and are zero otherwise"; goal 5 uses them "as goal 1 does" (02, N4)
 abbrev pub economyFields : Bool → Sheet → List Field
 economyFields used s =
     usedIf used 14 (s .economy .heat) 1 65_535 ∷
@@ -59,7 +61,7 @@ economyFields used s =
     usedIf used 18 (s .economy .insulation) 1 65_535 ∷
     usedIf used 20 (s .economy .share) 1 10_000 ∷ []
 
--- "The aim is zero for goal 1." Another goal's aim is judged by 16.
+-- "The aim is zero for goal 1.", and for goal 5 (02, N4). Another goal's aim is judged by 16.
 abbrev pub aimFields : Bool → Sheet → List Field
 aimFields true s = []
 aimFields false s = unused 22 (s .aim) ∷ []

@@ -41,7 +41,7 @@ impl Sheet {
         ensures { λ r. ⌜ r ≡ firstFault 12 (fields self) ⌝ }
     {
         let service = fault_or(1, self.service, 1, 4, Fault::None);
-        fault_or(0, self.code, 1, 3, service)
+        fault_or(0, self.code, 1, 5, service)
     }
 
     // The first field that the goal uses and that is outside its range.
@@ -50,6 +50,7 @@ impl Sheet {
     {
         let zero = Temperature::ZERO as u64;
         let goal = self.goal;
+        let flow = self.flow;
         let economy = self.economy_fault(goal.uses_economy());
         let coefficient = fault_or(12, self.line.coefficient, 100, 10_000, economy);
         let conductivity = fault_or(10, self.line.conductivity, 1, 2_000, coefficient);
@@ -63,7 +64,7 @@ impl Sheet {
         let temperature = fault_or(
             6,
             self.temperature.0 as u64,
-            zero - 500,
+            flow.least_temperature(),
             zero + 6_500,
             ambient,
         );
@@ -123,8 +124,9 @@ impl Sheet {
             GoalCode::ForEconomy => false,
             GoalCode::ForLoss => self.aim == 0,
             GoalCode::ForSurface => {
+                let flow = self.flow;
                 let aim = self.surface_aim();
-                !((self.ambient.0 < aim.0) & (aim.0 < self.temperature.0))
+                !(flow.beyond(aim, self.ambient) & flow.beyond(self.temperature, aim))
             }
         }
     }

@@ -1,14 +1,15 @@
 // The fields of a sheet's 24 bytes.
 ghost use mathlib.Core.Path.{_≡_};
 ghost use lib.ListN.{length};
-ghost use Rattle.sheet.specs.Sheet.{goalCode, usesEconomy, usesAim, decoded};
+ghost use Rattle.sheet.specs.Sheet.{goalCode, flowOf, usesEconomy, usesAim, decoded};
 use big_endian::unsigned;
+use flow::Flow;
 use lengths::Diameter;
 use line::Line;
 use requirement::EconomyTerms;
 use temperatures::Temperature;
 
-// What a goal's code says: 1 economy, 2 loss, and every other surface.
+// What a goal's code says: 1 and 5 economy, 2 loss, and every other surface.
 pub enum GoalCode {
     ForEconomy,
     ForLoss,
@@ -19,7 +20,7 @@ impl GoalCode {
     pub(crate) fn of(code: u64) -> GoalCode
         ensures { λ r. ⌜ r ≡ goalCode code ⌝ }
     {
-        if code == 1 {
+        if (code == 1) | (code == 5) {
             return GoalCode::ForEconomy;
         }
         if code == 2 {
@@ -51,11 +52,22 @@ impl GoalCode {
     }
 }
 
-// The goal's code as it is written and as it is read, the service, the insulated line, the temperatures t of the pipe and ta of the air, the
-// economy terms, and the aim as it is written.
+// The way of the heat by a goal's code: inward for 4 and 5.
+fn flow_of(code: u64) -> Flow
+    ensures { λ r. ⌜ r ≡ flowOf code ⌝ }
+{
+    if (code == 4) | (code == 5) {
+        return Flow::Inward;
+    }
+    Flow::Outward
+}
+
+// The goal's code as it is written and as it is read, the way of the heat, the service, the insulated line, the temperatures t of the pipe
+// and ta of the air, the economy terms, and the aim as it is written.
 pub struct Sheet {
     pub code: u64,
     pub goal: GoalCode,
+    pub flow: Flow,
     pub service: u64,
     pub line: Line,
     pub temperature: Temperature,
@@ -73,6 +85,7 @@ impl Sheet {
         Sheet {
             code,
             goal: GoalCode::of(code),
+            flow: flow_of(code),
             service: bytes[1] as u64,
             line: Line {
                 diameter: Diameter(unsigned(bytes, 4)),

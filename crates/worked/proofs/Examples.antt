@@ -20,7 +20,7 @@ use Rattle.refusals.specs.Response.{respond}
 use Rattle.sheet.specs.Sheet.{decoded}
 use Rattle.sheet.specs.Fields.{firstFault}
 use Rattle.sheet.specs.Answer.{lossCheck, surfaceCheck, surfaceBound, answerOf}
-use Rattle.worked.specs.Examples.{Examples}
+use Rattle.worked.specs.Examples.{Examples, ColdExamples}
 
 -- the economy requirement of both sheets: 14,402,025,000 × 7,500 × 333 × 2,880 × 137 / (1,600 × 2,296) under the root
 abbrev pub radicand : Fraction
@@ -48,4 +48,24 @@ examples =
       seasonal-row = refl;
       seasonal-interpolated = refl;
       service-5 = refl;
+    }
+
+pub cold-examples : ColdExamples
+unfolding summed lowerStep upperStep least insulation film insulationBounds filmBounds provided requirement enclosing firstNotInsufficient bigEndian bytesOf decoded neighbours lossLimit lossCheck surfaceCheck surfaceBound encoded answerOf firstFault respond
+cold-examples =
+    record {
+      economy-270 = rw (low, high);
+      economy-320 = rw (low, high);
+      across-zero = refl;
+      next-to-zero = refl;
+      nitrogen = refl;
+      colder = refl;
+      hot-50-1 = refl;
+      cold-50-1 = refl;
+      at-air = refl;
+      above-air = refl;
+      aim-at-air = refl;
+      aim-at-pipe = refl;
+      beyond-the-ladder = refl;
+      open-at-once = refl;
     }

@@ -1,7 +1,7 @@
 //! The thickness as a spreadsheet works it out: 64-bit floating-point numbers
 //! in SI units, a logarithm and a square root. It never says "too close".
 
-use crate::plain::{self, Goal, Refusal, Shape, Sheet};
+use crate::plain::{self, Flow, Method, Refusal, Shape, Sheet};
 
 /// What the spreadsheet prints for a sheet.
 #[derive(Clone, Copy, Debug, PartialEq, Eq)]
@@ -21,8 +21,8 @@ struct Case {
     shape: Shape,
     /// m
     diameter: f64,
-    /// K
-    rise: f64,
+    /// K, above zero on hot lines and on cold ones.
+    difference: f64,
     /// W/(m·K)
     conductivity: f64,
     /// Film term in m: 2λ/α on a cylinder, λ/α on a flat wall.
@@ -34,11 +34,10 @@ impl Case {
         let shape = sheet.shape();
         let conductivity = f64::from(sheet.conductivity) / 10_000.0;
         let coefficient = f64::from(sheet.coefficient) / 100.0;
-        let tenths = f64::from(sheet.pipe_temperature) - f64::from(sheet.air_temperature);
         Case {
             shape,
             diameter: f64::from(sheet.diameter) / 10_000.0,
-            rise: tenths / 10.0,
+            difference: f64::from(sheet.difference()) / 10.0,
             conductivity,
             film: shape_factor(shape) * conductivity / coefficient,
         }
@@ -64,19 +63,19 @@ impl Case {
         };
         let heat_price = f64::from(sheet.heat_price) / 100.0;
         let share = f64::from(sheet.yearly_share) / 10_000.0;
-        let heat = heat_price * self.conductivity * f64::from(sheet.hours) * self.rise;
+        let heat = heat_price * self.conductivity * f64::from(sheet.hours) * self.difference;
         coefficient * (heat / (f64::from(sheet.insulation_price) * share)).sqrt()
     }
 
     /// Need for a heat loss in tenths of W/m².
     fn required_for_loss(&self, tenths: u16) -> f64 {
         let loss = f64::from(tenths) / 10.0;
-        shape_factor(self.shape) * self.conductivity * self.rise / loss
+        shape_factor(self.shape) * self.conductivity * self.difference / loss
     }
 
-    /// Need for a surface that many tenths of a degree above the air.
-    fn required_for_surface(&self, tenths: f64) -> f64 {
-        self.film * self.rise / (tenths / 10.0)
+    /// Need for a surface that many tenths of a degree from the air.
+    fn required_for_surface(&self, tenths: i32) -> f64 {
+        self.film * self.difference / (f64::from(tenths) / 10.0)
     }
 }
 
@@ -85,11 +84,6 @@ fn shape_factor(shape: Shape) -> f64 {
         Shape::Cylinder => 2.0,
         Shape::Flat => 1.0,
     }
-}
-
-/// Degrees of a surface above the air, in tenths.
-fn above_air(sheet: &Sheet, surface: i16) -> f64 {
-    f64::from(surface) - f64::from(sheet.air_temperature)
 }
 
 fn check_code(sufficient: bool) -> u8 {
@@ -109,15 +103,25 @@ fn loss_check(sheet: &Sheet, case: &Case, provided: f64) -> u8 {
 
 fn surface_check(sheet: &Sheet, case: &Case, provided: f64) -> u8 {
     let limit = plain::surface_limit(sheet.air_temperature);
-    let required = case.required_for_surface(above_air(sheet, limit));
+    let required = case.required_for_surface(sheet.from_air(limit));
     check_code(sheet.pipe_temperature <= limit || provided >= required)
 }
 
-/// ta plus the surface's rise, up to the next tenth of a degree.
+/// The loss check and the surface check. A cold line has no limits.
+fn checks(sheet: &Sheet, case: &Case, provided: f64) -> (u8, u8) {
+    match sheet.goal.flow() {
+        Flow::Outward => (
+            loss_check(sheet, case, provided),
+            surface_check(sheet, case, provided),
+        ),
+        Flow::Inward => (plain::NONE_PRINTED, plain::WITHIN),
+    }
+}
+
+/// The surface's distance from ta, up to the next tenth of a degree.
 fn surface_bound(sheet: &Sheet, case: &Case, provided: f64) -> i16 {
-    let tenths = (10.0 * case.film * case.rise / provided).ceil();
-    let bound = f64::from(sheet.air_temperature) + tenths;
-    bound.min(f64::from(sheet.pipe_temperature)) as i16
+    let tenths = (10.0 * case.film * case.difference / provided).ceil();
+    sheet.temperature_at(tenths.min(f64::from(sheet.difference())) as i32)
 }
 
 /// The first rung where have is not below need, with its checks and bound;
@@ -125,19 +129,22 @@ fn surface_bound(sheet: &Sheet, case: &Case, provided: f64) -> i16 {
 pub fn estimate(sheet: &[u8]) -> Result<Option<Estimate>, Refusal> {
     let sheet = plain::examine(sheet)?;
     let case = Case::new(&sheet);
-    let required = match sheet.goal {
-        Goal::Economy => case.required_for_economy(&sheet),
-        Goal::Loss => case.required_for_loss(sheet.loss_aim()),
-        Goal::Surface => case.required_for_surface(above_air(&sheet, sheet.surface_aim())),
+    let required = match sheet.goal.method() {
+        Method::Economy => case.required_for_economy(&sheet),
+        Method::Loss => case.required_for_loss(sheet.loss_aim()),
+        Method::Surface => case.required_for_surface(sheet.from_air(sheet.surface_aim())),
     };
     let sufficient = plain::ladder()
         .map(|rung| (rung, case.provided(rung)))
         .find(|&(_, provided)| provided >= required);
-    Ok(sufficient.map(|(thickness, provided)| Estimate {
-        shape: case.shape,
-        thickness,
-        loss_check: loss_check(&sheet, &case, provided),
-        surface_check: surface_check(&sheet, &case, provided),
-        surface_bound: surface_bound(&sheet, &case, provided),
+    Ok(sufficient.map(|(thickness, provided)| {
+        let (loss_check, surface_check) = checks(&sheet, &case, provided);
+        Estimate {
+            shape: case.shape,
+            thickness,
+            loss_check,
+            surface_check,
+            surface_bound: surface_bound(&sheet, &case, provided),
+        }
     }))
 }

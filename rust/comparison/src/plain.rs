@@ -22,9 +22,21 @@ pub struct Field {
     pub offset: usize,
     pub signed: bool,
     pub least: i32,
+    /// The least value on the sheet of a cold line.
+    pub cold_least: i32,
     pub greatest: i32,
-    /// Used for goal 1 only and zero otherwise.
+    /// Used for goals 1 and 5 only and zero otherwise.
     pub economy_only: bool,
+}
+
+impl Field {
+    /// The range for a goal that uses the field.
+    pub fn range(&self, goal: Goal) -> RangeInclusive<i32> {
+        match goal.flow() {
+            Flow::Outward => self.least..=self.greatest,
+            Flow::Inward => self.cold_least..=self.greatest,
+        }
+    }
 }
 
 const fn field(offset: usize, least: i32, greatest: i32) -> Field {
@@ -32,6 +44,7 @@ const fn field(offset: usize, least: i32, greatest: i32) -> Field {
         offset,
         signed: false,
         least,
+        cold_least: least,
         greatest,
         economy_only: false,
     }
@@ -44,6 +57,13 @@ const fn signed(field: Field) -> Field {
     }
 }
 
+const fn down_to(cold_least: i32, field: Field) -> Field {
+    Field {
+        cold_least,
+        ..field
+    }
+}
+
 const fn economy_only(field: Field) -> Field {
     Field {
         economy_only: true,
@@ -52,7 +72,8 @@ const fn economy_only(field: Field) -> Field {
 }
 
 pub const DIAMETER: Field = field(4, 100, 65_535);
-pub const PIPE_TEMPERATURE: Field = signed(field(6, -500, 6_500));
+/// On the sheet of a cold line "t is below ta, down to −1,960".
+pub const PIPE_TEMPERATURE: Field = down_to(-1_960, signed(field(6, -500, 6_500)));
 pub const AIR_TEMPERATURE: Field = signed(field(8, -500, 500));
 pub const CONDUCTIVITY: Field = field(10, 1, 2_000);
 pub const COEFFICIENT: Field = field(12, 100, 10_000);
@@ -74,15 +95,77 @@ pub const FIELDS: [Field; 9] = [
     YEARLY_SHARE,
 ];
 
-/// 1 economy, 2 loss, 3 surface.
+/// 1 economy, 2 loss, 3 surface. "Goal 4 is cold surface", "goal 5 is cold
+/// economy".
 #[derive(Clone, Copy, Debug, PartialEq, Eq)]
 pub enum Goal {
     Economy = 1,
     Loss = 2,
     Surface = 3,
+    ColdSurface = 4,
+    ColdEconomy = 5,
 }
 
-pub const GOALS: [Goal; 3] = [Goal::Economy, Goal::Loss, Goal::Surface];
+pub const GOALS: [Goal; 5] = [
+    Goal::Economy,
+    Goal::Loss,
+    Goal::Surface,
+    Goal::ColdSurface,
+    Goal::ColdEconomy,
+];
+
+/// The equation that gives a goal's need.
+#[derive(Clone, Copy, Debug, PartialEq, Eq)]
+pub enum Method {
+    Economy,
+    Loss,
+    Surface,
+}
+
+/// The way that heat takes through the layer: out of a hot line, or into a
+/// cold one.
+#[derive(Clone, Copy, Debug, PartialEq, Eq)]
+pub enum Flow {
+    Outward,
+    Inward,
+}
+
+impl Goal {
+    pub fn method(self) -> Method {
+        match self {
+            Goal::Economy | Goal::ColdEconomy => Method::Economy,
+            Goal::Loss => Method::Loss,
+            Goal::Surface | Goal::ColdSurface => Method::Surface,
+        }
+    }
+
+    pub fn flow(self) -> Flow {
+        match self {
+            Goal::Economy | Goal::Loss | Goal::Surface => Flow::Outward,
+            Goal::ColdSurface | Goal::ColdEconomy => Flow::Inward,
+        }
+    }
+}
+
+impl Flow {
+    fn sign(self) -> i32 {
+        match self {
+            Flow::Outward => 1,
+            Flow::Inward => -1,
+        }
+    }
+
+    /// How far a temperature is from the air's, counted towards the pipe's:
+    /// how far above it on a hot line, how far below it on a cold one.
+    pub fn from_air(self, temperature: i32, air: i32) -> i32 {
+        self.sign() * (temperature - air)
+    }
+
+    /// The temperature that is so far from the air's.
+    pub fn temperature(self, from_air: i32, air: i32) -> i32 {
+        air + self.sign() * from_air
+    }
+}
 
 /// 1 year-round, 2 seasonal; 3 year-round and 4 seasonal, with "a straight line
 /// between neighbouring rows of the loss table".
@@ -134,7 +217,7 @@ pub struct Sheet {
     pub insulation_price: u16,
     /// S
     pub yearly_share: u16,
-    /// The aim's two bytes: unsigned for goal 2, signed for goal 3.
+    /// The aim's two bytes: unsigned for goal 2, signed for goals 3 and 4.
     aim: [u8; 2],
 }
 
@@ -183,14 +266,30 @@ impl Sheet {
         u16::from_be_bytes(self.aim)
     }
 
-    /// Goal 3's aim: "surface, 0.1 °C".
+    /// Goal 3's aim: "surface, 0.1 °C". "Goal 4's aim is the wanted surface
+    /// temperature."
     pub fn surface_aim(&self) -> i16 {
         i16::from_be_bytes(self.aim)
     }
 
-    /// "Δ = t − ta", above zero by test 15.
-    fn rise(&self) -> u128 {
-        self.pipe_temperature.abs_diff(self.air_temperature).into()
+    /// "Δ = t − ta"; on a cold line "Δ becomes ta − t". Test 15 holds it above
+    /// zero.
+    pub fn difference(&self) -> i32 {
+        self.from_air(self.pipe_temperature)
+    }
+
+    /// "s = aim − ta"; on a cold line "s = ta − aim". Test 16 holds it above
+    /// zero and below Δ.
+    pub fn from_air(&self, surface: i16) -> i32 {
+        let flow = self.goal.flow();
+        flow.from_air(surface.into(), self.air_temperature.into())
+    }
+
+    /// The temperature that is so far from the air's.
+    pub fn temperature_at(&self, from_air: i32) -> i16 {
+        let flow = self.goal.flow();
+        let temperature = flow.temperature(from_air, self.air_temperature.into());
+        i16::try_from(temperature).expect("a temperature of a sheet")
     }
 
     /// "D up to 10,000 is a cylinder, above that a flat wall."
@@ -218,23 +317,25 @@ pub fn examine(sheet: &[u8]) -> Result<Sheet, Refusal> {
     if FIELDS.iter().any(|field| outside(field, goal, sheet)) {
         return Err(13);
     }
-    // 14: an unused field not zero, or goal 1 with an aim not zero.
+    // 14: an unused field not zero, or goal 1 with an aim not zero. Goal 5's
+    // "aim is zero" too.
     let unused = FIELDS.iter().any(|field| stray(field, goal, sheet));
-    if unused || (goal == Goal::Economy && unsigned_at(sheet, AIM_OFFSET) != 0) {
+    if unused || (goal.method() == Method::Economy && unsigned_at(sheet, AIM_OFFSET) != 0) {
         return Err(14);
     }
     let sheet = Sheet::from_bytes(sheet, goal, service);
-    // 15: t not above ta.
-    if sheet.pipe_temperature <= sheet.air_temperature {
+    // 15: t not above ta. On a cold line "t is below ta".
+    if sheet.difference() <= 0 {
         return Err(15);
     }
-    // 16: goal 2 with aim 0; goal 3 unless ta < aim < t.
-    let valid_aim = match goal {
-        Goal::Economy => true,
-        Goal::Loss => sheet.loss_aim() != 0,
-        Goal::Surface => {
-            sheet.air_temperature < sheet.surface_aim()
-                && sheet.surface_aim() < sheet.pipe_temperature
+    // 16: goal 2 with aim 0; goal 3 unless ta < aim < t. Goal 4 "with
+    // t < aim < ta".
+    let valid_aim = match goal.method() {
+        Method::Economy => true,
+        Method::Loss => sheet.loss_aim() != 0,
+        Method::Surface => {
+            let from_air = sheet.from_air(sheet.surface_aim());
+            0 < from_air && from_air < sheet.difference()
         }
     };
     if valid_aim {
@@ -244,9 +345,10 @@ pub fn examine(sheet: &[u8]) -> Result<Sheet, Refusal> {
     }
 }
 
-/// "Offsets 14–21 are used for goal 1 only."
+/// "Offsets 14–21 are used for goal 1 only." "Goal 5 uses offsets 14–21 as
+/// goal 1 does."
 pub fn used(field: &Field, goal: Goal) -> bool {
-    goal == Goal::Economy || !field.economy_only
+    goal.method() == Method::Economy || !field.economy_only
 }
 
 /// Test 13: the range of an unused field does not apply.
@@ -256,7 +358,7 @@ fn outside(field: &Field, goal: Goal, sheet: &[u8]) -> bool {
     } else {
         i32::from(unsigned_at(sheet, field.offset))
     };
-    used(field, goal) && !(field.least..=field.greatest).contains(&value)
+    used(field, goal) && !field.range(goal).contains(&value)
 }
 
 /// Test 14: "and are zero otherwise".
@@ -399,11 +501,16 @@ fn root_of_quotient(numerator: u128, denominator: u128) -> Bracket {
 
 /// Need of the sheet's own goal.
 pub fn required(sheet: &Sheet) -> Bracket {
-    match sheet.goal {
-        Goal::Economy => required_for_economy(sheet),
-        Goal::Loss => required_for_loss(sheet, sheet.loss_aim().into()),
-        Goal::Surface => required_for_surface(sheet, sheet.surface_aim()),
+    match sheet.goal.method() {
+        Method::Economy => required_for_economy(sheet),
+        Method::Loss => required_for_loss(sheet, sheet.loss_aim().into()),
+        Method::Surface => required_for_surface(sheet, sheet.surface_aim()),
     }
+}
+
+/// A Δ or an s of a sheet that has passed tests 15 and 16.
+fn natural(difference: i32) -> u128 {
+    u128::try_from(difference).expect("a difference above zero")
 }
 
 /// Need, "economy: the square root of 14,402,025,000 × fLτΔ / (PS) on a
@@ -416,25 +523,25 @@ fn required_for_economy(sheet: &Sheet) -> Bracket {
     let heat = u128::from(sheet.heat_price)
         * u128::from(sheet.conductivity)
         * u128::from(sheet.hours)
-        * sheet.rise();
+        * natural(sheet.difference());
     let cost = u128::from(sheet.insulation_price) * u128::from(sheet.yearly_share);
     root_of_quotient(coefficient * heat, cost)
 }
 
 /// Need, "loss: 2LΔ × 10⁵ / aim, flat LΔ × 10⁵ / aim".
 fn required_for_loss(sheet: &Sheet, aim: u128) -> Bracket {
-    let wall = u128::from(sheet.conductivity) * sheet.rise() * 100_000;
+    let wall = u128::from(sheet.conductivity) * natural(sheet.difference()) * 100_000;
     match sheet.shape() {
         Shape::Cylinder => quotient(2 * wall, aim),
         Shape::Flat => quotient(wall, aim),
     }
 }
 
-/// Need, "surface: 2LΔ × 10⁷ / (αs), flat half of that", where s = aim − ta.
+/// Need, "surface: 2LΔ × 10⁷ / (αs), flat half of that".
 fn required_for_surface(sheet: &Sheet, aim: i16) -> Bracket {
-    let cylinder = 2 * u128::from(sheet.conductivity) * sheet.rise() * 10_000_000;
-    let above_air = u128::from(aim.abs_diff(sheet.air_temperature));
-    let divisor = u128::from(sheet.coefficient) * above_air;
+    let heat = 2 * u128::from(sheet.conductivity) * natural(sheet.difference());
+    let cylinder = heat * 10_000_000;
+    let divisor = u128::from(sheet.coefficient) * natural(sheet.from_air(aim));
     match sheet.shape() {
         Shape::Cylinder => quotient(cylinder, divisor),
         Shape::Flat => quotient(cylinder, 2 * divisor),
@@ -612,18 +719,28 @@ fn surface_check(sheet: &Sheet, provided: Bracket) -> u8 {
     check_code(judge(provided, required_for_surface(sheet, limit)))
 }
 
+/// Bytes 4 and 5. "Both checks of a cold sheet read 0 for surface and 3 for
+/// loss."
+fn checks(sheet: &Sheet, provided: Bracket) -> [u8; 2] {
+    match sheet.goal.flow() {
+        Flow::Outward => [loss_check(sheet, provided), surface_check(sheet, provided)],
+        Flow::Inward => [NONE_PRINTED, WITHIN],
+    }
+}
+
 /// "Surface bound: ta plus 2L × 10⁷ × Δ / (α × under-have) rounded up, flat
-/// with L in place of 2L, and never above t."
+/// with L in place of 2L, and never above t." On a cold line it is "a lower
+/// one: ta minus the quotient rounded up, and never below t".
 fn surface_bound(sheet: &Sheet, provided: Bracket) -> i16 {
     let factor = match sheet.shape() {
         Shape::Cylinder => 2,
         Shape::Flat => 1,
     };
-    let heat = factor * u128::from(sheet.conductivity) * 10_000_000 * sheet.rise();
-    let above_air = heat.div_ceil(u128::from(sheet.coefficient) * provided.lower);
-    let to_pipe = sheet.rise();
-    let above_air = i16::try_from(above_air.min(to_pipe)).expect("at most t − ta");
-    sheet.air_temperature + above_air
+    let difference = natural(sheet.difference());
+    let heat = factor * u128::from(sheet.conductivity) * 10_000_000 * difference;
+    let from_air = heat.div_ceil(u128::from(sheet.coefficient) * provided.lower);
+    let from_air = i32::try_from(from_air.min(difference)).expect("at most Δ");
+    sheet.temperature_at(from_air)
 }
 
 /// The answer to a sheet: "Byte 0 is 0. Byte 1: 1 cylinder, 2 flat. Bytes 2–3:
@@ -635,8 +752,7 @@ pub fn answer(sheet: &[u8]) -> Result<[u8; ANSWER_LENGTH], Refusal> {
     let mut answer = [0; ANSWER_LENGTH];
     answer[1] = sheet.shape() as u8;
     answer[2..4].copy_from_slice(&thickness.to_be_bytes());
-    answer[4] = loss_check(&sheet, provided);
-    answer[5] = surface_check(&sheet, provided);
+    answer[4..6].copy_from_slice(&checks(&sheet, provided));
     answer[6..8].copy_from_slice(&surface_bound(&sheet, provided).to_be_bytes());
     Ok(answer)
 }

@@ -41,19 +41,20 @@ const fn kind(family: Family, name: &'static str, make: Maker) -> Kind {
 }
 
 /// Every kind, in the order in which they take turns.
-pub static KINDS: [Kind; 24] = [
+pub static KINDS: [Kind; 25] = [
     kind(Family::Ordinary, "office", ordinary::office),
     kind(Family::Ordinary, "anywhere", ordinary::anywhere),
     kind(Family::Ordinary, "diameter edge", ordinary::diameter_edge),
     kind(Family::Ordinary, "table row", ordinary::table_row),
     kind(Family::Ordinary, "surface limit", ordinary::surface_limit),
     kind(Family::Ordinary, "end of range", ordinary::end_of_range),
+    kind(Family::Ordinary, "about zero", ordinary::about_zero),
     kind(Family::Ordinary, "widest product", ordinary::widest_product),
     kind(Family::Refused, "wrong length", refused::wrong_length),
     kind(Family::Refused, "unknown code", refused::unknown_code),
     kind(Family::Refused, "beyond range", refused::beyond_range),
     kind(Family::Refused, "stray field", refused::stray_field),
-    kind(Family::Refused, "not hot", refused::not_hot),
+    kind(Family::Refused, "wrong side", refused::wrong_side),
     kind(Family::Refused, "aim", refused::aim),
     kind(Family::Refused, "several faults", refused::several_faults),
     kind(Family::Refused, "any bytes", refused::any_bytes),

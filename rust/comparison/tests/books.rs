@@ -42,11 +42,13 @@ impl Pool {
     }
 }
 
-/// The state of a test: its sheets, and how often each response came.
+/// The state of a test: its sheets, how often each response came, and how many
+/// sheets of each goal were filed.
 struct Trial {
     random: Random,
     pool: Pool,
     responses: BTreeMap<(&'static str, Refusal), usize>,
+    filed: BTreeMap<u8, usize>,
 }
 
 impl Trial {
@@ -55,6 +57,7 @@ impl Trial {
             random: Random::new(seed),
             pool: Pool::new(seed),
             responses: BTreeMap::new(),
+            filed: BTreeMap::new(),
         }
     }
 
@@ -72,6 +75,14 @@ impl Trial {
         }
     }
 
+    fn assert_every_goal_filed(&self, least: usize) {
+        for goal in plain::GOALS {
+            let times = self.filed.get(&(goal as u8)).copied().unwrap_or(0);
+            println!("{goal:?} filed: {times}");
+            assert!(times >= least, "{goal:?} was filed {times} times only");
+        }
+    }
+
     /// Makes a book over bytes that hold something else.
     fn new_book(&mut self, capacity: usize) -> Vec<u8> {
         let mut book = vec![0; plain::book_length(capacity)];
@@ -84,6 +95,8 @@ impl Trial {
     fn file_good(&mut self, book: &mut [u8]) -> Option<(Vec<u8>, [u8; 8])> {
         let sheet = self.pool.good(&mut self.random).to_vec();
         let answer = self.count("file", both::file(book, &sheet))?;
+        let goal = sheet[plain::GOAL_OFFSET];
+        *self.filed.entry(goal).or_default() += 1;
         Some((sheet, answer))
     }
 
@@ -155,6 +168,19 @@ impl Trial {
         }
     }
 
+    /// Another goal in each sheet slot: a hot line that is said to be cold, a
+    /// cold one that is said to be hot, a goal that is unknown.
+    fn damage_goals(&mut self, book: &[u8], capacity: usize) {
+        for entry in 0..capacity {
+            let goal = HEADER_LENGTH + plain::SHEET_LENGTH * entry + plain::GOAL_OFFSET;
+            for code in 0..=plain::GOALS.len() as u8 + 1 {
+                let mut damaged = book.to_vec();
+                damaged[goal] = code;
+                self.read(&damaged, entry as u64);
+            }
+        }
+    }
+
     /// Other lengths, down to none, and another capacity with its own length.
     fn damage_length(&mut self, book: &[u8]) {
         let length = book.len();
@@ -190,10 +216,12 @@ fn small_books() {
         trial.visit(&book);
         trial.damage_header(&book);
         trial.damage_length(&book);
+        trial.damage_goals(&book, capacity);
         for _ in 0..10 {
             trial.damage_slots(&book, capacity);
         }
     }
+    trial.assert_every_goal_filed(5_000);
     trial.assert_at_least(SMALL_BOOKS, "new", &[0]);
     trial.assert_at_least(1_000, "file", &[0, 11, 12, 13, 14, 15, 16, 17, 18]);
     trial.assert_at_least(10_000, "file", &[31, 32, 34]);
@@ -217,6 +245,7 @@ fn full_size_books() {
         trial.damage_header(&book);
         trial.damage_length(&book);
     }
+    trial.assert_every_goal_filed(100);
     trial.assert_at_least(2 * capacity, "file", &[0]);
     trial.assert_at_least(100, "file", &[31, 32, 34]);
     trial.assert_at_least(100, "read", &[0, 31, 32, 33, 35]);

@@ -1,6 +1,7 @@
-//! The loss limit at every temperature above −50.0 °C, for every service. Where
-//! there is one, the answers to two sheets leave only that, to the tenth of a
-//! W/m²; where there is none, one sheet says so.
+//! The loss limit of hot lines at every temperature above −50.0 °C, for every
+//! service. Where there is one, the answers to two sheets leave only that, to
+//! the tenth of a W/m²; where there is none, one sheet says so. Cold lines have
+//! none, down to −196.0 °C.
 
 use comparison::both;
 use comparison::plain::{self, Goal, Service, NONE_PRINTED, OVER, WITHIN};
@@ -61,6 +62,35 @@ fn at_every_temperature() {
                     let sheet = wall(service, pipe, plain::AIR_TEMPERATURE.least, 1_000, 65_535);
                     assert_eq!(loss_check(&sheet), NONE_PRINTED, "{service:?} at {pipe}");
                 }
+            }
+        }
+    }
+}
+
+/// A wall as cold as that in the warmest air, its surface as cold as an aim can
+/// be, or its prices and hours the least.
+fn cold_wall(goal: Goal, service: Service, pipe: i32) -> Draft {
+    let mut draft = wall(service, pipe, plain::AIR_TEMPERATURE.greatest, 1_000, 0);
+    draft[plain::GOAL_OFFSET] = goal as u8;
+    for field in plain::FIELDS.into_iter().filter(|field| field.economy_only) {
+        let used = plain::used(&field, goal);
+        put_field(&mut draft, field, if used { field.least } else { 0 });
+    }
+    if goal == Goal::ColdSurface {
+        put(&mut draft, plain::AIM_OFFSET, pipe + 1);
+    }
+    draft
+}
+
+#[test]
+fn at_every_cold_temperature() {
+    let field = plain::PIPE_TEMPERATURE;
+    for service in plain::SERVICES {
+        for pipe in field.cold_least..=plain::AIR_TEMPERATURE.greatest - 2 {
+            for goal in [Goal::ColdSurface, Goal::ColdEconomy] {
+                let answer = both::answer(&cold_wall(goal, service, pipe)).expect("a thickness");
+                let checks = [answer[4], answer[5]];
+                assert_eq!(checks, [NONE_PRINTED, WITHIN], "{service:?} at {pipe}");
             }
         }
     }

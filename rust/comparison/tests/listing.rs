@@ -36,6 +36,16 @@ fn wall(line: i32, air: i32) -> Draft {
     draft
 }
 
+/// A cold one 20.0 °C below the air, whose surface is to be 10.0 °C below it at
+/// most: need is 10 mm again.
+fn cold_wall(line: i32, air: i32) -> Draft {
+    let mut draft = wall(line, air);
+    draft[0] = 4;
+    put(&mut draft, 6, air - 200);
+    put(&mut draft, SHEET_LENGTH - 2, air - 100);
+    draft
+}
+
 /// Too small an aim for 300 mm: have 305 mm, need 400 mm.
 fn beyond_the_ladder(line: i32) -> Draft {
     let mut draft = wall(line, 0);
@@ -81,12 +91,37 @@ fn answers_have_a_bound_with_its_sign() {
     assert_eq!(listing(sheets), HEADER.to_owned() + lines);
 }
 
+/// For so few hours a wall stays bare.
+fn bare_cold_wall(line: i32, air: i32) -> Draft {
+    let mut draft = cold_wall(line, air);
+    draft[0] = 5;
+    for (offset, value) in [(14, 1), (16, 1), (18, 1), (20, 10_000), (22, 0)] {
+        put(&mut draft, offset, value);
+    }
+    draft
+}
+
+/// The surface is at most 6.7 °C below the air, or as cold as the bare wall.
+#[test]
+fn cold_answers_have_a_lower_bound() {
+    let walls = [cold_wall(0, 200), cold_wall(8, 0), cold_wall(65_535, 72)];
+    let sheets = [walls.concat(), bare_cold_wall(10, 5).to_vec()].concat();
+    let lines = "0 flat 10 none within 13.3\n\
+                 8 flat 10 none within -6.7\n\
+                 65535 flat 10 none within 0.5\n\
+                 10 flat 0 none within -19.5\n";
+    assert_eq!(listing(sheets), HEADER.to_owned() + lines);
+}
+
 #[test]
 fn refused_sheets_and_a_short_piece_have_their_numbers() {
     let mut unknown = wall(3, 0);
     unknown[0] = 9;
-    let sheets = [&unknown[..], &beyond_the_ladder(4), &unknown[1..]].concat();
-    let lines = "3 refused 12\n4 refused 17\n- refused 11\n";
+    let mut not_cold = wall(5, 0);
+    not_cold[0] = 4;
+    let whole = [unknown, beyond_the_ladder(4), not_cold].concat();
+    let sheets = [&whole[..], &unknown[1..]].concat();
+    let lines = "3 refused 12\n4 refused 17\n5 refused 15\n- refused 11\n";
     assert_eq!(listing(sheets), HEADER.to_owned() + lines);
 }
 

@@ -1,4 +1,5 @@
-//! Insulation thickness for hot pipes and walls, and the book that keeps it.
+//! Insulation thickness for hot and cold pipes and walls, and the book that keeps
+//! it.
 //!
 //! Each function is one call of the proved library. The caller lends every
 //! byte; a refused call changes none of them and returns its number alone.

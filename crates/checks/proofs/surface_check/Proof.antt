@@ -1,29 +1,19 @@
 -- `surface_check` meets its contract.
 -- Assumes nothing.
-use mathlib.Core.Path.{_≡_, refl, ap, _∙_}
-use mathlib.Core.Bool.{Bool, true, false, cond}
-use Prim.Native.Nat.{_+_, _-_, _<_}
+use mathlib.Core.Path.{_≡_, ap, _∙_}
+use Prim.Native.Nat.{_-_, _<_}
 use native.Mathlib.Omega.{arith}
-use lib.Dec.{leb}
-use borrow.Author.Tests.{le-leb, lt-leb, leb-true}
+use borrow.Author.Tests.{le-leb, lt-leb}
 use Rattle.temperatures.specs.declared.Temperature.{Temperature}
-use Rattle.temperatures.specs.Temperature.{tenthsCelsius}
 use Rattle.requirement.specs.declared.Goal.the-variants.{Surface}
 use Rattle.verdict.specs.Verdict.{judged}
 use Rattle.limits.specs.Limits.{surfaceLimit}
+use Rattle.limits.proofs.SurfaceLimit.{limit-above}
 use Rattle.sheet.specs.Search.{requiredOf}
 use Rattle.sheet.specs.Answer.{surfaceCheck}
 use borrow.Author.Needs.{needs}
 use Rattle.checks.proofs.surface_check.Statement.{statement}
 use Rattle.checks.proofs.surface_check.Tie as tie
-
--- the limit is above the air's temperature
-limit-above : (ta : Temperature) → ta .0 < surfaceLimit ta .0
-limit-above ta = go (leb (ta .0) (tenthsCelsius 270 .0)) refl
-  where
-    go : (b : Bool) → leb (ta .0) (tenthsCelsius 270 .0) ≡ b → ta .0 < cond b (tenthsCelsius 500) (record { 0 = ta .0 + 250 }) .0
-    go true e = omega (arith, leb-true (ta .0) (tenthsCelsius 270 .0) e)
-    go false e = omega arith
 
 -- after the call: the limit
 module _ (c : tie.After-surface-limit) where
@@ -47,7 +37,7 @@ required-by-requires c κs =
     let less = c .before .before in
     let limited = less .before .before .before in
     let pre = limited .before .pre in
-    (pre, (omega (arith, above limited), omega (arith, less .if1 .left, pre .difference-to)))
+    (pre, (omega (arith, above limited), omega (arith, less .if1 .left, pre .temperature-to, pre .ambient-from)))
 
 returns-2 : tie.Need-returns-2
 unfolding surfaceCheck

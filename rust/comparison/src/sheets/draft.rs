@@ -1,7 +1,7 @@
 //! Sheets under construction.
 
 use super::{Batch, Random};
-use crate::plain::{self, Field, Goal, Service, Shape, Sheet};
+use crate::plain::{self, Field, Flow, Goal, Method, Service, Shape, Sheet};
 
 pub type Draft = [u8; plain::SHEET_LENGTH];
 
@@ -39,21 +39,52 @@ pub fn sheet_of(draft: &Draft) -> Option<Sheet> {
     plain::examine(draft).ok()
 }
 
-/// Every goal with every service and shape.
-pub fn every_sort() -> impl Iterator<Item = (Goal, Service, Shape)> {
-    plain::GOALS.into_iter().flat_map(|goal| {
-        plain::SERVICES.into_iter().flat_map(move |service| {
-            [Shape::Cylinder, Shape::Flat]
-                .into_iter()
-                .map(move |shape| (goal, service, shape))
-        })
-    })
+/// Every goal with every shape and service. A cold goal has two services each
+/// time: nothing but their codes is read.
+pub fn every_sort(random: &mut Random) -> Vec<(Goal, Service, Shape)> {
+    let mut sorts = Vec::new();
+    for goal in plain::GOALS {
+        let services = match goal.flow() {
+            Flow::Outward => plain::SERVICES.to_vec(),
+            Flow::Inward => vec![random.pick(&plain::SERVICES), random.pick(&plain::SERVICES)],
+        };
+        for service in services {
+            sorts.extend([Shape::Cylinder, Shape::Flat].map(|shape| (goal, service, shape)));
+        }
+    }
+    sorts
+}
+
+/// Economy of hot lines and of cold ones.
+pub const ECONOMY: [Goal; 2] = [Goal::Economy, Goal::ColdEconomy];
+
+/// The surface of hot lines and of cold ones.
+pub const SURFACE: [Goal; 2] = [Goal::Surface, Goal::ColdSurface];
+
+fn sort_of(random: &mut Random, goal: Goal) -> (Goal, Service, Shape) {
+    let service = random.pick(&plain::SERVICES);
+    (goal, service, random.pick(&[Shape::Cylinder, Shape::Flat]))
 }
 
 pub fn any_sort(random: &mut Random) -> (Goal, Service, Shape) {
     let goal = random.pick(&plain::GOALS);
-    let service = random.pick(&plain::SERVICES);
-    (goal, service, random.pick(&[Shape::Cylinder, Shape::Flat]))
+    sort_of(random, goal)
+}
+
+/// A sort whose checks have limits.
+pub fn any_hot_sort(random: &mut Random) -> (Goal, Service, Shape) {
+    let goal = random.pick(&[Goal::Economy, Goal::Loss, Goal::Surface]);
+    sort_of(random, goal)
+}
+
+/// The ends of a field's range, each with the step that leads out of it. t has
+/// two lower ones: that of hot lines and that of cold ones.
+pub fn ends(field: Field) -> Vec<(i32, i32)> {
+    let mut ends = vec![(field.least, -1), (field.greatest, 1)];
+    if field.cold_least != field.least {
+        ends.push((field.cold_least, -1));
+    }
+    ends
 }
 
 /// The diameters of a shape.
@@ -67,33 +98,55 @@ pub fn diameters(shape: Shape) -> (i32, i32) {
     }
 }
 
-/// A pipe temperature and an air temperature at least 0.2 K below it, so that
-/// a surface aim fits in between.
-pub fn hot(random: &mut Random) -> (i32, i32) {
-    let air_field = plain::AIR_TEMPERATURE;
-    let air = random.between(air_field.least, air_field.greatest);
-    let greatest = match random.below(4) {
-        0 => air + 20,
-        1 => 700,
-        _ => plain::PIPE_TEMPERATURE.greatest,
-    };
-    (random.between(air + 2, greatest), air)
+/// The largest Δ that leaves the pipe's temperature in its range.
+pub fn largest_difference(flow: Flow, air: i32) -> i32 {
+    let field = plain::PIPE_TEMPERATURE;
+    match flow {
+        Flow::Outward => flow.from_air(field.greatest, air),
+        Flow::Inward => flow.from_air(field.cold_least, air),
+    }
 }
 
+/// A pipe temperature and an air temperature at least 0.2 K apart, so that a
+/// surface aim fits in between.
+fn any_temperatures(random: &mut Random, flow: Flow) -> (i32, i32) {
+    let field = plain::AIR_TEMPERATURE;
+    let air = random.between(field.least, field.greatest);
+    let moderate = match flow {
+        Flow::Outward => 700,
+        Flow::Inward => -200,
+    };
+    let greatest = match random.below(4) {
+        0 => 20,
+        1 => flow.from_air(moderate, air).max(20),
+        _ => largest_difference(flow, air),
+    };
+    let difference = random.between(2, greatest);
+    (flow.temperature(difference, air), air)
+}
+
+/// The pipe's and the air's.
 pub fn put_temperatures(draft: &mut Draft, (pipe, air): (i32, i32)) {
     put_field(draft, plain::PIPE_TEMPERATURE, pipe);
     put_field(draft, plain::AIR_TEMPERATURE, air);
 }
 
-/// Puts an aim that passes test 16, if there is one, or zero for goal 1.
+pub fn get_temperatures(draft: &Draft) -> (i32, i32) {
+    let pipe = get_field(draft, plain::PIPE_TEMPERATURE);
+    (pipe, get_field(draft, plain::AIR_TEMPERATURE))
+}
+
+/// Puts an aim that passes test 16, if there is one, or zero for economy.
 pub fn put_any_aim(random: &mut Random, draft: &mut Draft) {
-    let aim = match goal_of(draft) {
-        Goal::Economy => 0,
-        Goal::Loss => random.low_between(1, 65_535),
-        Goal::Surface => {
-            let pipe = get_field(draft, plain::PIPE_TEMPERATURE);
-            let air = get_field(draft, plain::AIR_TEMPERATURE);
-            random.between(air + 1, (pipe - 1).max(air + 1))
+    let goal = goal_of(draft);
+    let aim = match goal.method() {
+        Method::Economy => 0,
+        Method::Loss => random.low_between(1, 65_535),
+        Method::Surface => {
+            let (pipe, air) = get_temperatures(draft);
+            let difference = goal.flow().from_air(pipe, air);
+            let from_air = random.between(1, (difference - 1).max(1));
+            goal.flow().temperature(from_air, air)
         }
     };
     put(draft, plain::AIM_OFFSET, aim);
@@ -114,7 +167,7 @@ pub fn any_draft(random: &mut Random, (goal, service, shape): (Goal, Service, Sh
     let (least, greatest) = diameters(shape);
     let diameter = random.between(least, greatest);
     put_field(&mut draft, plain::DIAMETER, diameter);
-    put_temperatures(&mut draft, hot(random));
+    put_temperatures(&mut draft, any_temperatures(random, goal.flow()));
     put_any_aim(random, &mut draft);
     draft
 }

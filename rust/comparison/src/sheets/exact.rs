@@ -2,11 +2,11 @@
 //! walls.
 
 use super::draft::{
-    any_draft, any_rung, any_sort, push_found, push_neighbours, put, put_field, put_temperatures,
-    Draft,
+    any_draft, any_rung, any_sort, goal_of, largest_difference, push_found, push_neighbours, put,
+    put_field, put_temperatures, Draft, ECONOMY, SURFACE,
 };
 use super::{Batch, Random};
-use crate::plain::{self, Field, Goal, Shape};
+use crate::plain::{self, Field, Flow, Goal, Shape};
 
 /// A product of small primes.
 fn smooth(random: &mut Random, least: i32, greatest: i32) -> i32 {
@@ -89,37 +89,46 @@ impl Wall {
     }
 }
 
-const LARGEST_RISE: i64 = (plain::PIPE_TEMPERATURE.greatest - plain::AIR_TEMPERATURE.least) as i64;
 const LARGEST_AIM: i64 = u16::MAX as i64;
 
-/// The Δ that has the ratio to an aim or an s, if it is a whole number.
-fn whole_rise(ratio: (i64, i64), divisor: i32) -> Option<i32> {
+/// The largest Δ of all.
+fn largest(flow: Flow) -> i32 {
+    let field = plain::AIR_TEMPERATURE;
+    let ends = [field.least, field.greatest];
+    let largest = ends.map(|air| largest_difference(flow, air));
+    largest[0].max(largest[1])
+}
+
+/// The Δ that has the ratio to a limit or its s, if it is a whole number.
+fn whole_difference(ratio: (i64, i64), divisor: i32) -> Option<i32> {
     let product = ratio.0 * i64::from(divisor);
-    let whole = product % ratio.1 == 0 && product / ratio.1 <= LARGEST_RISE;
+    let whole = product % ratio.1 == 0 && product / ratio.1 <= largest(Flow::Outward).into();
     whole.then_some((product / ratio.1) as i32)
 }
 
-/// Temperatures with a rise, the pipe's being in a range.
-fn temperatures_within(random: &mut Random, rise: i32, pipe: (i32, i32)) -> Option<(i32, i32)> {
-    let air = plain::AIR_TEMPERATURE;
-    let least = air.least.max(pipe.0 - rise);
-    let greatest = air.greatest.min(pipe.1 - rise);
+/// Temperatures with a Δ, anywhere in their ranges.
+fn temperatures_with(random: &mut Random, goal: Goal, difference: i32) -> Option<(i32, i32)> {
+    let flow = goal.flow();
+    let pipes = plain::PIPE_TEMPERATURE.range(goal);
+    let airs = [pipes.start(), pipes.end()].map(|&pipe| flow.temperature(-difference, pipe));
+    let least = plain::AIR_TEMPERATURE.least.max(airs[0]);
+    let greatest = plain::AIR_TEMPERATURE.greatest.min(airs[1]);
     if greatest < least {
         return None;
     }
     let air = random.between(least, greatest);
-    Some((air + rise, air))
-}
-
-fn temperatures_with(random: &mut Random, rise: i32) -> Option<(i32, i32)> {
-    let pipe = plain::PIPE_TEMPERATURE;
-    temperatures_within(random, rise, (pipe.least, pipe.greatest))
+    Some((flow.temperature(difference, air), air))
 }
 
 /// Walls whose need, for the aim or at a limit, equals have.
 pub fn wall(random: &mut Random, sheets: &mut Batch) {
-    let makers: [fn(&mut Random) -> Option<Draft>; 4] =
-        [loss_wall, surface_wall, loss_limit_wall, surface_limit_wall];
+    let makers: [fn(&mut Random) -> Option<Draft>; 5] = [
+        loss_wall,
+        surface_wall,
+        surface_wall,
+        loss_limit_wall,
+        surface_limit_wall,
+    ];
     for maker in makers {
         push_found(random, plain::AIM_OFFSET, maker, sheets);
     }
@@ -128,19 +137,22 @@ pub fn wall(random: &mut Random, sheets: &mut Batch) {
 /// Need for the loss aim equals have.
 fn loss_wall(random: &mut Random) -> Option<Draft> {
     let wall = Wall::any(random);
-    let bounds = (LARGEST_RISE, LARGEST_AIM);
-    let (rise, aim) = in_ratio(random, wall.loss_ratio(), bounds)?;
-    let temperatures = temperatures_with(random, rise)?;
+    let bounds = (largest(Flow::Outward).into(), LARGEST_AIM);
+    let (difference, aim) = in_ratio(random, wall.loss_ratio(), bounds)?;
+    let temperatures = temperatures_with(random, Goal::Loss, difference)?;
     Some(wall.draft(random, Goal::Loss, temperatures, aim))
 }
 
 /// Need for the surface aim equals have.
 fn surface_wall(random: &mut Random) -> Option<Draft> {
     let wall = Wall::any(random);
-    let bounds = (LARGEST_RISE, LARGEST_RISE);
-    let (rise, above_air) = in_ratio(random, wall.surface_ratio(), bounds)?;
-    let (pipe, air) = temperatures_with(random, rise)?;
-    Some(wall.draft(random, Goal::Surface, (pipe, air), air + above_air))
+    let goal = random.pick(&SURFACE);
+    let flow = goal.flow();
+    let bounds = (largest(flow).into(), largest(flow).into());
+    let (difference, from_air) = in_ratio(random, wall.surface_ratio(), bounds)?;
+    let (pipe, air) = temperatures_with(random, goal, difference)?;
+    let aim = flow.temperature(from_air, air);
+    Some(wall.draft(random, goal, (pipe, air), aim))
 }
 
 /// Need at the loss limit equals have. The aim is one above the limit.
@@ -150,9 +162,9 @@ fn loss_limit_wall(random: &mut Random) -> Option<Draft> {
     let pipe = random.between(least, plain::PIPE_TEMPERATURE.greatest);
     let service = random.pick(&plain::SERVICES);
     let limit = plain::loss_limit(service, pipe as i16)?.into();
-    let rise = whole_rise(wall.loss_ratio(), limit)?;
-    let temperatures = temperatures_within(random, rise, (pipe, pipe))?;
-    let mut draft = wall.draft(random, Goal::Loss, temperatures, limit + 1);
+    let air = pipe - whole_difference(wall.loss_ratio(), limit)?;
+    in_range(plain::AIR_TEMPERATURE, air)?;
+    let mut draft = wall.draft(random, Goal::Loss, (pipe, air), limit + 1);
     draft[plain::SERVICE_OFFSET] = service as u8;
     Some(draft)
 }
@@ -163,7 +175,7 @@ fn surface_limit_wall(random: &mut Random) -> Option<Draft> {
     let field = plain::AIR_TEMPERATURE;
     let air = random.between(field.least, field.greatest);
     let limit = i32::from(plain::surface_limit(air as i16));
-    let pipe = air + whole_rise(wall.surface_ratio(), limit - air)?;
+    let pipe = air + whole_difference(wall.surface_ratio(), limit - air)?;
     let reached = limit + 1 < pipe && pipe <= plain::PIPE_TEMPERATURE.greatest;
     reached.then(|| wall.draft(random, Goal::Surface, (pipe, air), limit + 1))
 }
@@ -171,7 +183,8 @@ fn surface_limit_wall(random: &mut Random) -> Option<Draft> {
 /// Flat walls and bare pipes whose economy need equals have.
 pub fn economy(random: &mut Random, sheets: &mut Batch) {
     for shape in [Shape::Cylinder, Shape::Flat] {
-        let make = |random: &mut Random| economy_draft(random, shape);
+        let goal = random.pick(&ECONOMY);
+        let make = |random: &mut Random| economy_draft(random, goal, shape);
         push_found(random, plain::HEAT_PRICE.offset, make, sheets);
     }
 }
@@ -179,9 +192,9 @@ pub fn economy(random: &mut Random, sheets: &mut Batch) {
 /// A film of r mm, so that L × 10⁷ / α = r × 10⁶. With P and S multiples of
 /// the printed coefficient, need² = 1,000 × fLτΔ / (ab). A flat wall has
 /// (k + r) × 10⁶, a bare pipe 2r × 10⁶.
-fn economy_draft(random: &mut Random, shape: Shape) -> Option<Draft> {
+fn economy_draft(random: &mut Random, goal: Goal, shape: Shape) -> Option<Draft> {
     let (_, service, _) = any_sort(random);
-    let mut draft = any_draft(random, (Goal::Economy, service, shape));
+    let mut draft = any_draft(random, (goal, service, shape));
     let film = smooth(random, 1, 200);
     let conductivity = smooth(random, 1, plain::CONDUCTIVITY.greatest);
     let (have, printed) = match shape {
@@ -204,10 +217,12 @@ fn economy_draft(random: &mut Random, shape: Shape) -> Option<Draft> {
 
 /// Puts f, τ and Δ of the given product.
 fn put_factors(random: &mut Random, draft: &mut Draft, product: i64) -> Option<()> {
+    let goal = goal_of(draft);
     for _ in 0..100 {
-        let hours = smooth(random, 1, plain::HOURS.greatest);
-        let rise = smooth(random, 1, LARGEST_RISE as i32);
-        let divisor = i64::from(hours) * i64::from(rise);
+        let least = random.pick(&[1, 50, 1_000]);
+        let hours = smooth(random, least, plain::HOURS.greatest);
+        let difference = smooth(random, least, largest(goal.flow()));
+        let divisor = i64::from(hours) * i64::from(difference);
         if product % divisor != 0 {
             continue;
         }
@@ -215,20 +230,25 @@ fn put_factors(random: &mut Random, draft: &mut Draft, product: i64) -> Option<(
         if let Some(price) = in_range(plain::HEAT_PRICE, price) {
             put_field(draft, plain::HOURS, hours);
             put_field(draft, plain::HEAT_PRICE, price);
-            put_temperatures(draft, temperatures_with(random, rise)?);
+            put_temperatures(draft, temperatures_with(random, goal, difference)?);
             return Some(());
         }
     }
     None
 }
 
-/// Bare surfaces at their loss aim and at the surface limit.
+/// Bare surfaces at their loss aim and at the surface limit, cold ones, and
+/// surfaces with an aim next to the bare one.
 pub fn bare(random: &mut Random, sheets: &mut Batch) {
     let shape = random.pick(&[Shape::Cylinder, Shape::Flat]);
     let draft = bare_loss(random, shape);
     push_neighbours(&draft, plain::AIM_OFFSET, sheets);
     let draft = bare_at_surface_limit(random, shape);
     push_neighbours(&draft, plain::COEFFICIENT.offset, sheets);
+    let draft = cheap(random, Goal::ColdEconomy, shape);
+    push_neighbours(&draft, plain::PIPE_TEMPERATURE.offset, sheets);
+    let draft = hardly_bare(random, shape);
+    push_neighbours(&draft, plain::AIM_OFFSET, sheets);
 }
 
 /// The bare surface loses exactly its aim: αΔ = 100 × aim.
@@ -238,10 +258,11 @@ fn bare_loss(random: &mut Random, shape: Shape) -> Draft {
         let mut draft = any_draft(random, (Goal::Loss, service, shape));
         let field = plain::COEFFICIENT;
         let coefficient = smooth(random, field.least, field.greatest);
-        let rise = 50 * random.between(1, LARGEST_RISE as i32 / 50);
-        let aim = coefficient * rise / 100;
-        let exact = aim * 100 == coefficient * rise && i64::from(aim) <= LARGEST_AIM;
-        if let (true, Some(temperatures)) = (exact, temperatures_with(random, rise)) {
+        let difference = 50 * random.between(1, largest(Flow::Outward) / 50);
+        let aim = coefficient * difference / 100;
+        let exact = aim * 100 == coefficient * difference && i64::from(aim) <= LARGEST_AIM;
+        let temperatures = temperatures_with(random, Goal::Loss, difference);
+        if let (true, Some(temperatures)) = (exact, temperatures) {
             put_temperatures(&mut draft, temperatures);
             put_field(&mut draft, plain::COEFFICIENT, coefficient);
             put(&mut draft, plain::AIM_OFFSET, aim);
@@ -253,13 +274,40 @@ fn bare_loss(random: &mut Random, shape: Shape) -> Draft {
 /// A pipe just above the surface limit in cold air, with so little have that
 /// a nanometre decides, and so cheap a heat that it stays bare.
 fn bare_at_surface_limit(random: &mut Random, shape: Shape) -> Draft {
-    let (_, service, _) = any_sort(random);
-    let mut draft = any_draft(random, (Goal::Economy, service, shape));
+    let mut draft = cheap(random, Goal::Economy, shape);
     let air = random.between(plain::AIR_TEMPERATURE.least, -200);
     put_temperatures(&mut draft, (500 + random.between(1, 2), air));
+    put_least_film(random, &mut draft);
+    draft
+}
+
+/// An aim a tenth of a degree from t, with so little have that the bare surface
+/// misses it by a nanometre or is open.
+fn hardly_bare(random: &mut Random, shape: Shape) -> Draft {
+    let (_, service, _) = any_sort(random);
+    let goal = random.pick(&SURFACE);
+    let flow = goal.flow();
+    let mut draft = any_draft(random, (goal, service, shape));
+    let difference = random.between(500, largest(flow));
+    let (pipe, air) = temperatures_with(random, goal, difference).expect("room for Δ");
+    put_temperatures(&mut draft, (pipe, air));
+    put_least_film(random, &mut draft);
+    let aim = flow.temperature(difference - 1, air);
+    put(&mut draft, plain::AIM_OFFSET, aim);
+    draft
+}
+
+/// A film of hardly more than a micrometre, twice that on a pipe.
+fn put_least_film(random: &mut Random, draft: &mut Draft) {
     let coefficient = random.between(9_000, 9_999);
-    put_field(&mut draft, plain::CONDUCTIVITY, 1);
-    put_field(&mut draft, plain::COEFFICIENT, coefficient);
+    put_field(draft, plain::CONDUCTIVITY, 1);
+    put_field(draft, plain::COEFFICIENT, coefficient);
+}
+
+/// Heat is cheap and the layer dear, so that a surface stays bare.
+fn cheap(random: &mut Random, goal: Goal, shape: Shape) -> Draft {
+    let (_, service, _) = any_sort(random);
+    let mut draft = any_draft(random, (goal, service, shape));
     for field in [plain::HEAT_PRICE, plain::HOURS] {
         put_field(&mut draft, field, random.between(1, 3));
     }

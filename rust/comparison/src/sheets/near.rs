@@ -1,17 +1,20 @@
 //! Sheets for which have and need lie next to each other at a chosen rung.
 
 use super::draft::{
-    any_draft, any_rung, any_sort, diameters, push_found, put, put_field, sheet_of, Draft,
+    any_draft, any_rung, any_sort, diameters, largest_difference, push_found, put, put_field,
+    sheet_of, Draft, ECONOMY, SURFACE,
 };
 use super::{Batch, Random};
 use crate::plain::{self, Bracket, Goal, Shape, Sheet};
+use std::ops::Range;
 
-/// How many pipe temperatures are tried for the nearest one.
+/// How many pipe temperatures are tried for the nearest one, where there are as
+/// many.
 const WINDOW: i32 = 1_500;
 
 /// Thin pipes come most often: their open rungs are the widest.
 fn any_diameter(random: &mut Random) -> i32 {
-    let (least, greatest) = match random.below(8) {
+    let (least, greatest) = match random.below(9) {
         0..=3 => return random.low_between(plain::DIAMETER.least, 400),
         4 | 5 => diameters(Shape::Cylinder),
         _ => diameters(Shape::Flat),
@@ -51,17 +54,20 @@ impl Fit {
     }
 }
 
-/// The first temperature of a window above the least one.
-fn any_window(random: &mut Random, least: i32) -> i32 {
-    random.between(least, plain::PIPE_TEMPERATURE.greatest - WINDOW + 1)
+/// A window of the sheet's possible Δ, from the least one up.
+fn any_window(random: &mut Random, sheet: &Sheet, least: i32) -> Range<i32> {
+    let air = sheet.air_temperature.into();
+    let beyond = largest_difference(sheet.goal.flow(), air) + 1;
+    let start = random.between(least, least.max(beyond - WINDOW));
+    start..beyond.min(start + WINDOW)
 }
 
-/// The pipe temperature, in the window from `start`, and the value that bring
-/// have and need nearest to each other.
-fn nearest(start: i32, fit: impl Fn(i32) -> Fit) -> Option<(i32, i32)> {
-    let fits = (start..start + WINDOW).filter_map(|pipe| {
-        let (value, distance) = fit(pipe).rounded()?;
-        Some((distance, pipe, value))
+/// The Δ, in the window, and the value that bring have and need nearest to each
+/// other.
+fn nearest(window: Range<i32>, fit: impl Fn(i32) -> Fit) -> Option<(i32, i32)> {
+    let fits = window.filter_map(|difference| {
+        let (value, distance) = fit(difference).rounded()?;
+        Some((distance, difference, value))
     });
     let best = fits.min_by(|first, second| first.0.total_cmp(&second.0))?;
     Some((best.1, best.2))
@@ -74,11 +80,18 @@ fn any_figure(random: &mut Random, have: Bracket) -> f64 {
     random.pick(&[have.lower, have.upper, middle]) as f64
 }
 
+/// Puts the pipe's temperature that gives a Δ.
+fn put_difference(draft: &mut Draft, sheet: &Sheet, difference: i32) {
+    let pipe = sheet.temperature_at(difference).into();
+    put_field(draft, plain::PIPE_TEMPERATURE, pipe);
+}
+
 // The goal's own need next to have.
 
 pub fn economy(random: &mut Random, sheets: &mut Batch) {
-    for _ in 0..4 {
-        let (draft, _, target) = target(random, Goal::Economy);
+    for _ in 0..7 {
+        let goal = random.pick(&ECONOMY);
+        let (draft, _, target) = target(random, goal);
         push_priced(random, draft, target, sheets);
     }
 }
@@ -88,7 +101,8 @@ pub fn economy(random: &mut Random, sheets: &mut Batch) {
 pub fn outer_diameter(random: &mut Random, sheets: &mut Batch) {
     for _ in 0..6 {
         let (diameter, rung) = any_outer_diameter(random);
-        let mut draft = setting(random, Goal::Economy);
+        let goal = random.pick(&ECONOMY);
+        let mut draft = setting(random, goal);
         put_field(&mut draft, plain::DIAMETER, diameter);
         let sheet = sheet_of(&draft).expect("a good draft");
         let have = plain::provided_at(&sheet, rung);
@@ -123,7 +137,7 @@ pub fn loss(random: &mut Random, sheets: &mut Batch) {
 }
 
 pub fn surface(random: &mut Random, sheets: &mut Batch) {
-    for _ in 0..4 {
+    for _ in 0..8 {
         push_found(random, plain::AIM_OFFSET, near_surface, sheets);
     }
 }
@@ -145,11 +159,6 @@ fn conductivity(sheet: &Sheet) -> f64 {
     }
 }
 
-/// Δ for a pipe temperature that is tried.
-fn rise(sheet: &Sheet, pipe: i32) -> f64 {
-    f64::from(pipe - i32::from(sheet.air_temperature))
-}
-
 /// Any f and τ, an S that makes P large, and the P for which need is the
 /// target. The step to the next P is then small, and need changes half as much.
 fn priced(random: &mut Random, mut draft: Draft, target: f64) -> Option<Draft> {
@@ -161,22 +170,23 @@ fn priced(random: &mut Random, mut draft: Draft, target: f64) -> Option<Draft> {
         );
     }
     let sheet = sheet_of(&draft)?;
-    let start = any_window(random, i32::from(sheet.air_temperature) + 1);
+    let window = any_window(random, &sheet, 1);
     let price = plain::INSULATION_PRICE;
     let large = f64::from(random.between(price.greatest / 3, price.greatest));
     // Need is the target where PS is this much for each tenth of Δ.
     let cost = heat_value(&sheet) / (target * target);
-    let share = (cost * rise(&sheet, start + WINDOW / 2) / large).round();
+    let middle = (window.start + window.end) / 2;
+    let share = (cost * f64::from(middle) / large).round();
     if !(1.0..=f64::from(plain::YEARLY_SHARE.greatest)).contains(&share) {
         return None;
     }
-    let (pipe, value) = nearest(start, |pipe| Fit {
-        value: cost * rise(&sheet, pipe) / share,
+    let (difference, value) = nearest(window, |difference| Fit {
+        value: cost * f64::from(difference) / share,
         weight: target / 2.0,
         range: (price.least + 1, price.greatest - 1),
     })?;
     put_field(&mut draft, plain::YEARLY_SHARE, share as i32);
-    put_field(&mut draft, plain::PIPE_TEMPERATURE, pipe);
+    put_difference(&mut draft, &sheet, difference);
     put_field(&mut draft, price, value);
     Some(draft)
 }
@@ -194,29 +204,31 @@ fn heat_value(sheet: &Sheet) -> f64 {
 /// The loss aim for which need is the target.
 fn near_loss(random: &mut Random) -> Option<Draft> {
     let (mut draft, sheet, target) = target(random, Goal::Loss);
-    let start = any_window(random, i32::from(sheet.air_temperature) + 1);
-    let (pipe, aim) = nearest(start, |pipe| Fit {
-        value: conductivity(&sheet) * rise(&sheet, pipe) * 1e5 / target,
+    let window = any_window(random, &sheet, 1);
+    let (difference, aim) = nearest(window, |difference| Fit {
+        value: conductivity(&sheet) * f64::from(difference) * 1e5 / target,
         weight: target,
         range: (1, 65_535),
     })?;
-    put_field(&mut draft, plain::PIPE_TEMPERATURE, pipe);
+    put_difference(&mut draft, &sheet, difference);
     put(&mut draft, plain::AIM_OFFSET, aim);
     Some(draft)
 }
 
 /// The surface aim for which need is the target.
 fn near_surface(random: &mut Random) -> Option<Draft> {
-    let (mut draft, sheet, target) = target(random, Goal::Surface);
-    let air = i32::from(sheet.air_temperature);
+    let goal = random.pick(&SURFACE);
+    let (mut draft, sheet, target) = target(random, goal);
     let film = conductivity(&sheet) * 1e7 / f64::from(sheet.coefficient);
-    let (pipe, above_air) = nearest(any_window(random, air + 2), |pipe| Fit {
-        value: film * rise(&sheet, pipe) / target,
+    let window = any_window(random, &sheet, 2);
+    let (difference, from_air) = nearest(window, |difference| Fit {
+        value: film * f64::from(difference) / target,
         weight: target,
-        range: (1, pipe - air - 1),
+        range: (1, difference - 1),
     })?;
-    put_field(&mut draft, plain::PIPE_TEMPERATURE, pipe);
-    put(&mut draft, plain::AIM_OFFSET, air + above_air);
+    put_difference(&mut draft, &sheet, difference);
+    let aim = sheet.temperature_at(from_air).into();
+    put(&mut draft, plain::AIM_OFFSET, aim);
     Some(draft)
 }
 
@@ -224,7 +236,9 @@ fn near_surface(random: &mut Random) -> Option<Draft> {
 // chosen rung meets, and its check is close.
 
 pub fn loss_limit(random: &mut Random, sheets: &mut Batch) {
-    push_found(random, plain::COEFFICIENT.offset, near_loss_limit, sheets);
+    for _ in 0..2 {
+        push_found(random, plain::COEFFICIENT.offset, near_loss_limit, sheets);
+    }
 }
 
 pub fn surface_limit(random: &mut Random, sheets: &mut Batch) {
@@ -259,20 +273,24 @@ const COEFFICIENTS: (i32, i32) = (
 fn near_loss_limit(random: &mut Random) -> Option<Draft> {
     let (mut draft, sheet, layer) = layer(random, Goal::Loss);
     // Where none is printed, a limit that no film reaches.
-    let limit = |pipe: i32| plain::loss_limit(sheet.service, pipe as i16).unwrap_or(1);
-    let start = any_window(random, 10 * i32::from(plain::LOSS_LIMITS[0].temperature));
-    let (pipe, coefficient) = nearest(start, |pipe| {
-        let heat = conductivity(&sheet) * rise(&sheet, pipe);
-        let film = heat * 1e5 / f64::from(limit(pipe)) - layer;
+    let limit = |difference: i32| {
+        let pipe = sheet.temperature_at(difference);
+        plain::loss_limit(sheet.service, pipe).unwrap_or(1)
+    };
+    let least = sheet.from_air(10 * plain::LOSS_LIMITS[0].temperature);
+    let window = any_window(random, &sheet, least.max(1));
+    let (difference, coefficient) = nearest(window, |difference| {
+        let heat = conductivity(&sheet) * f64::from(difference);
+        let film = heat * 1e5 / f64::from(limit(difference)) - layer;
         Fit {
             value: conductivity(&sheet) * 1e7 / film,
             weight: film,
             range: COEFFICIENTS,
         }
     })?;
-    put_field(&mut draft, plain::PIPE_TEMPERATURE, pipe);
+    put_difference(&mut draft, &sheet, difference);
     put_field(&mut draft, plain::COEFFICIENT, coefficient);
-    let aim = i32::from(limit(pipe)) + random.between(1, 20);
+    let aim = i32::from(limit(difference)) + random.between(1, 20);
     put(&mut draft, plain::AIM_OFFSET, aim);
     Some(draft)
 }
@@ -281,17 +299,18 @@ fn near_loss_limit(random: &mut Random) -> Option<Draft> {
 /// film × (Δ − s).
 fn near_surface_limit(random: &mut Random) -> Option<Draft> {
     let (mut draft, sheet, layer) = layer(random, Goal::Surface);
-    let air = i32::from(sheet.air_temperature);
-    let limit = i32::from(plain::surface_limit(sheet.air_temperature));
-    let within = f64::from(limit - air);
+    let limit = sheet.from_air(plain::surface_limit(sheet.air_temperature));
     let aim = limit + random.between(1, 20);
-    let (pipe, coefficient) = nearest(any_window(random, aim + 1), |pipe| Fit {
-        value: conductivity(&sheet) * 1e7 * f64::from(pipe - limit) / (within * layer),
+    let window = any_window(random, &sheet, aim + 1);
+    let (difference, coefficient) = nearest(window, |difference| Fit {
+        value: conductivity(&sheet) * 1e7 * f64::from(difference - limit)
+            / (f64::from(limit) * layer),
         weight: layer,
         range: COEFFICIENTS,
     })?;
-    put_field(&mut draft, plain::PIPE_TEMPERATURE, pipe);
+    put_difference(&mut draft, &sheet, difference);
     put_field(&mut draft, plain::COEFFICIENT, coefficient);
+    let aim = sheet.temperature_at(aim).into();
     put(&mut draft, plain::AIM_OFFSET, aim);
     Some(draft)
 }

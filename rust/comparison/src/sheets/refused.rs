@@ -1,10 +1,10 @@
 //! Sheets with faults, and sheets just inside the faults.
 
 use super::draft::{
-    any_draft, any_sort, get_field, goal_of, put, put_field, put_temperatures, Draft,
+    any_draft, any_sort, ends, get_temperatures, goal_of, put, put_field, put_temperatures, Draft,
 };
 use super::{Batch, Random};
-use crate::plain::{self, Field, Goal};
+use crate::plain::{self, Field, Flow, Method};
 
 /// Lengths other than 24, and 24 now and then.
 pub fn wrong_length(random: &mut Random, sheets: &mut Batch) {
@@ -36,18 +36,21 @@ pub fn stray_field(random: &mut Random, sheets: &mut Batch) {
     faulty(random, sheets, 4, put_stray_field);
 }
 
-pub fn not_hot(random: &mut Random, sheets: &mut Batch) {
-    faulty(random, sheets, 4, put_not_hot);
+pub fn wrong_side(random: &mut Random, sheets: &mut Batch) {
+    faulty(random, sheets, 4, put_wrong_side);
 }
 
 pub fn aim(random: &mut Random, sheets: &mut Batch) {
     faulty(random, sheets, 8, put_aim);
 }
 
-/// Each field one beyond its range, and one field anywhere beyond.
+/// Each field one beyond its range, and one field anywhere beyond. t is one
+/// below the least of hot lines and one below that of cold ones, whatever the
+/// goal.
 pub fn beyond_range(random: &mut Random, sheets: &mut Batch) {
     for field in plain::FIELDS {
-        for value in [field.least - 1, field.greatest + 1] {
+        for (end, step) in ends(field) {
+            let value = end + step;
             if representable(field, value) {
                 let sort = any_sort(random);
                 let mut draft = any_draft(random, sort);
@@ -65,7 +68,7 @@ pub fn several_faults(random: &mut Random, sheets: &mut Batch) {
         put_unknown_code,
         put_beyond_range,
         put_stray_field,
-        put_not_hot,
+        put_wrong_side,
         put_aim,
     ];
     for _ in 0..8 {
@@ -133,7 +136,7 @@ fn put_beyond_range(random: &mut Random, draft: &mut Draft) {
         } else {
             random.low_between(0, u16::MAX.into())
         };
-        if !(field.least..=field.greatest).contains(&value) {
+        if !field.range(goal).contains(&value) {
             put_field(draft, field, value);
             return;
         }
@@ -152,36 +155,40 @@ fn put_stray_field(random: &mut Random, draft: &mut Draft) {
         .into_iter()
         .filter(|field| !plain::used(field, goal));
     let mut offsets: Vec<usize> = unused.map(|field| field.offset).collect();
-    if goal == Goal::Economy {
+    if goal.method() == Method::Economy {
         offsets.push(plain::AIM_OFFSET);
     }
     put(draft, random.pick(&offsets), value);
 }
 
-/// t at ta, a tenth below, or anywhere below.
-fn put_not_hot(random: &mut Random, draft: &mut Draft) {
+/// t at ta, a tenth on the wrong side of it, or anywhere there.
+fn put_wrong_side(random: &mut Random, draft: &mut Draft) {
+    let flow = goal_of(draft).flow();
     let field = plain::AIR_TEMPERATURE;
     let air = random.between(field.least + 1, field.greatest);
-    let pipe = match random.below(3) {
-        0 => air,
-        1 => air - 1,
-        _ => random.between(plain::PIPE_TEMPERATURE.least, air),
+    let end = match flow {
+        Flow::Outward => plain::PIPE_TEMPERATURE.least,
+        Flow::Inward => plain::PIPE_TEMPERATURE.greatest,
     };
-    put_temperatures(draft, (pipe, air));
+    let from_air = match random.below(3) {
+        0 => 0,
+        1 => -1,
+        _ => random.between(flow.from_air(end, air), 0),
+    };
+    put_temperatures(draft, (flow.temperature(from_air, air), air));
 }
 
-/// Goal 2: 0, or 1 which is valid. Goal 3: at or outside ta and t, or just
-/// inside. Goal 1: not zero.
+/// Economy: not zero. Loss: 0, or 1 which is valid. Surface: at or outside ta
+/// and t, or just inside.
 fn put_aim(random: &mut Random, draft: &mut Draft) {
-    let pipe = get_field(draft, plain::PIPE_TEMPERATURE);
-    let air = get_field(draft, plain::AIR_TEMPERATURE);
-    let value = match goal_of(draft) {
-        Goal::Economy => random.between(1, 65_535),
-        Goal::Loss => i32::from(random.once_in(4)),
-        Goal::Surface => {
-            let lowest = i16::MIN.into();
-            let highest = i16::MAX.into();
-            let (below, above) = (random.between(lowest, air), random.between(pipe, highest));
+    let (pipe, air) = get_temperatures(draft);
+    let value = match goal_of(draft).method() {
+        Method::Economy => random.between(1, 65_535),
+        Method::Loss => i32::from(random.once_in(4)),
+        Method::Surface => {
+            let (lowest, highest) = (i16::MIN.into(), i16::MAX.into());
+            let below = random.between(lowest, pipe.min(air));
+            let above = random.between(pipe.max(air), highest);
             let edges = [air - 1, air, air + 1, pipe - 1, pipe, pipe + 1];
             let others = [below, above, lowest, highest, 0];
             random.pick(&[&edges[..], &others[..]].concat())

@@ -1,12 +1,13 @@
 -- A sheet worked out by its fields meets its contract: each refusal comes where its case holds and none before it does.
 -- Assumes nothing.
-use mathlib.Core.Path.{_≡_, sym, _∙_}
+use mathlib.Core.Path.{_≡_, sym, ap, _∙_}
+use mathlib.Core.Bool.{not}
 use mathlib.Core.List.{List, _++_}
 use Prim.Native.Nat.{ℕ}
 use lib.ListN.{take}
-use borrow.Author.Tests.{le-leb, lt-leb}
 use Rattle.refusals.specs.Cases.{Case, NoneHolds}
 use Rattle.refusals.proofs.Response.{later, first-at, none-more}
+use Rattle.flow.specs.Flow.{beyond}
 use Rattle.answer.specs.Answer.{encoded}
 use Rattle.sheet.specs.declared.fields.Sheet.{Sheet}
 use Rattle.sheet.specs.Fields.{fields, firstFault, isFault}
@@ -50,6 +51,9 @@ outside c = cc
 unused : (c : tie.After-found3) → isFault (firstFault 14 (fields (past-13 (c .before .before)))) ≡ c .found3 .result
 unused c = cc
 
+undriven : (c : tie.After-beyond) → let s = past-14 (c .before) in not (beyond (s .flow) (s .temperature) (s .ambient)) ≡ not (c .beyond .result)
+undriven c = ap not (sym (c .beyond .ensures))
+
 -- the cases up to the one tested fail
 none-12 : (c : tie.Else1) → NoneHolds (take 1 (all (past-12 c)))
 unfolding NoneHolds
@@ -62,7 +66,7 @@ none-14 : (c : tie.Else3) → NoneHolds (take 3 (all (past-14 c)))
 none-14 c = none-more 2 (all (past-14 c)) (none-13 (c .before .before .before)) (unused (c .before) ∙ c .if3 .left)
 
 none-15 : (c : tie.Else4) → NoneHolds (take 4 (all (past-15 c)))
-none-15 c = none-more 3 (all (past-15 c)) (none-14 (c .before .before)) (lt-leb _ _ (c .if4 .left))
+none-15 c = none-more 3 (all (past-15 c)) (none-14 (c .before .before)) (undriven (c .before) ∙ c .if4 .left)
 
 none-16 : (c : tie.Else5) → NoneHolds (valueCases (past-16 c))
 none-16 c = none-more 4 (all (past-16 c)) (none-15 (c .before .before)) (sym (c .before .invalid-aim .ensures) ∙ c .if5 .left)
@@ -86,12 +90,12 @@ returns-3 c =
 returns-4 : tie.Need-returns-4
 returns-4 c =
     let zero = c .before .before in
-    sym (first-at 3 (all (past-14 zero)) (answer (past-14 zero)) (none-14 zero) (le-leb _ _ (c .if4 .taken)))
+    sym (first-at 3 (all (past-14 zero)) (answer (past-14 zero)) (none-14 zero) (undriven (c .before) ∙ c .if4 .taken))
 
 returns-5 : tie.Need-returns-5
 returns-5 c =
-    let warmer = c .before .before in
-    sym (first-at 4 (all (past-15 warmer)) (answer (past-15 warmer)) (none-15 warmer) (sym (c .before .invalid-aim .ensures) ∙ c .if5 .taken))
+    let driven = c .before .before in
+    sym (first-at 4 (all (past-15 driven)) (answer (past-15 driven)) (none-15 driven) (sym (c .before .invalid-aim .ensures) ∙ c .if5 .taken))
 
 returns-6 : tie.Need-returns-6
 returns-6 c =
@@ -111,6 +115,7 @@ work-out-sheet-spec =
     (λ c κs. search needs)
     (λ c κs. search needs)
     returns-3
+    (λ c κs. search needs)
     returns-4
     (λ c κs. search needs)
     returns-5

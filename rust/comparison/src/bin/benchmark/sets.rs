@@ -71,7 +71,7 @@ fn refused() -> Batch {
 }
 
 /// Each goal and shape, and refused sheets.
-pub fn cases() -> [(&'static str, Batch); 7] {
+pub fn cases() -> [(&'static str, Batch); 11] {
     use {Goal::*, Shape::*};
     [
         ("economy, cylinder", answered_for(Economy, Cylinder)),
@@ -80,6 +80,16 @@ pub fn cases() -> [(&'static str, Batch); 7] {
         ("loss, flat wall", answered_for(Loss, Flat)),
         ("surface, cylinder", answered_for(Surface, Cylinder)),
         ("surface, flat wall", answered_for(Surface, Flat)),
+        (
+            "cold surface, cylinder",
+            answered_for(ColdSurface, Cylinder),
+        ),
+        ("cold surface, flat wall", answered_for(ColdSurface, Flat)),
+        (
+            "cold economy, cylinder",
+            answered_for(ColdEconomy, Cylinder),
+        ),
+        ("cold economy, flat wall", answered_for(ColdEconomy, Flat)),
         ("refused", refused()),
     ]
 }

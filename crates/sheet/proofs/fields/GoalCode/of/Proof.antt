@@ -9,6 +9,6 @@ pub of-spec : {M : Type 1} → statement M
 of-spec =
     tie.close
     (tie.spec
-    (λ c. rw (eq-eqb (c .before .args .code) 1 (c .if1 .taken)))
-    (λ c. rw (ne-eqb (c .before .before .args .code) 1 (c .before .if1 .left), eq-eqb (c .before .before .args .code) 2 (c .if2 .taken)))
-    (λ c. rw (ne-eqb (c .before .before .args .code) 1 (c .before .if1 .left), ne-eqb (c .before .before .args .code) 2 (c .if2 .left))))
+    (λ c. rw (c .if1 .taken))
+    (λ c. rw (c .before .if1 .left, eq-eqb (c .before .before .args .code) 2 (c .if2 .taken)))
+    (λ c. rw (c .before .if1 .left, ne-eqb (c .before .before .args .code) 2 (c .if2 .left))))

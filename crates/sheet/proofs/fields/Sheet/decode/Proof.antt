@@ -26,7 +26,8 @@ returns c =
       line .unsigned3 .ensures .0,
       line .before .unsigned2 .ensures .0,
       line .before .before .unsigned .ensures .0,
-      line .before .before .before .before .of .ensures,
+      line .before .before .before .before .flow-of .ensures,
+      line .before .before .before .before .before .of .ensures,
     )
 
 pub decode-spec : {M : Type 1} → statement M
@@ -35,6 +36,7 @@ decode-spec =
     (tie.spec
     (λ c. search needs)
     (λ c. omega (arith, c .shared-slice-known2 .given 0))
+    (λ c κs. search needs)
     (λ c κs. search needs)
     (λ c. search needs)
     (λ c. omega (arith, c .shared-slice-known3 .given 1))

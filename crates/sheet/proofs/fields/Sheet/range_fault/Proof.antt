@@ -11,12 +11,13 @@ returns : tie.Need-returns
 unfolding firstFault
 returns c =
     let t = c .before in
-    let ta = t .before .before in
+    let ta = t .before .before .before in
     let economy = ta .before .before .before .before in
     let s = economy .before .before .args .self in
     rw (
       c .fault-or5 .ensures,
       t .fault-or4 .ensures,
+      t .before .least-temperature .ensures,
       ta .fault-or3 .ensures,
       ta .before .before .fault-or2 .ensures,
       ta .before .before .before .fault-or .ensures,
@@ -39,7 +40,7 @@ range-fault-spec =
     (λ c. search needs)
     (λ c κs. search needs)
     (λ c. search needs)
-    (λ c. search needs)
+    (λ c κs. search needs)
     (λ c. search needs)
     (λ c κs. search needs)
     (λ c κs. search needs)

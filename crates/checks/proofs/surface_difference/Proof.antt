@@ -1,16 +1,15 @@
--- How far the surface is above the air meets its contract.
+-- How far the surface lies beyond the air meets its contract.
 -- Assumes nothing.
-use mathlib.Core.Path.{ap, _∙_}
+use mathlib.Core.Path.{ap}
 use Prim.Native.Nat.{ℕ, _*_}
 use native.Mathlib.Nat.{le-trans, mul-pos, mul-le-mul}
 use native.Mathlib.Omega.{arith}
 use Rattle.fractions.specs.Fraction.{_over_}
 use Rattle.fractions.specs.Rounding.{ceiling}
-use Rattle.fractions.proofs.Sides.{upper-of}
 use Rattle.provision.specs.Provided.{film}
 use borrow.Author.Needs.{needs}
-use Rattle.checks.proofs.rise.Statement.{statement}
-use Rattle.checks.proofs.rise.Tie as tie
+use Rattle.checks.proofs.surface_difference.Statement.{statement}
+use Rattle.checks.proofs.surface_difference.Tie as tie
 
 mul-quotient-2 : tie.Need-mul-quotient-2
 mul-quotient-2 c =
@@ -26,8 +25,8 @@ returns : tie.Need-returns
 unfolding film
 returns c =
     let a = c .before .before .before .args in
-    upper-of (c .quotient .ensures) ∙ ap (λ (n : ℕ). ceiling (n over (a .line .coefficient * a .lower))) (omega (arith, c .before .before .conduction .ensures .0))
+    rw (c .quotient .ensures) (ap (λ (n : ℕ). ceiling (n over (a .line .coefficient * a .lower))) (omega (arith, c .before .before .conduction .ensures .0)))
 
-pub rise-spec : {M : Type 1} → statement M
-rise-spec =
+pub surface-difference-spec : {M : Type 1} → statement M
+surface-difference-spec =
     tie.close (tie.spec (λ c κs. search needs) (λ c. search needs) mul-quotient-2 quotient-requires returns)

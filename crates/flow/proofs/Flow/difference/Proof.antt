@@ -1,0 +1,19 @@
+-- `Flow::difference` meets its contract.
+-- Assumes nothing.
+use native.Mathlib.Omega.{arith}
+use borrow.Author.Needs.{needs}
+use Rattle.flow.proofs.Flow.difference.Statement.{statement}
+use Rattle.flow.proofs.Flow.difference.Tie as tie
+
+pub difference-spec : {M : Type 1} → statement M
+difference-spec =
+    tie.close
+    (tie.spec
+    (λ c. search needs)
+    (λ c. omega (arith, rw (c .before .before .enum-told .given .1) at (c .before .before .before .before .pre)))
+    (λ c. search needs)
+    (λ c. search needs)
+    (λ c. omega (arith, rw (c .before .before .enum-told2 .given .1) at (c .before .before .before .before .pre)))
+    (λ c. search needs)
+    (λ c. rw (c .before .before .enum-told .given .1))
+    (λ c. rw (c .before .before .enum-told2 .given .1)))
