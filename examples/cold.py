@@ -1,5 +1,5 @@
 #!/usr/bin/env python3
-"""The sheets of a chilled-water and refrigeration plant, as rows of the plant's table.
+"""The sheets of a chilled-water and refrigeration plant, as rows with plant.py's columns.
 
     python3 examples/cold.py > examples/cold.sheets
 """
@@ -8,7 +8,7 @@ import sys
 sys.dont_write_bytecode = True
 from plant import write
 
-# The columns are the plant's; the price is that of cold, in yuan/GJ. Against condensation the aim is 1.0 °C above the dew point.
+# The columns are those of plant.py; the price is that of cold, in yuan/GJ. Where a row names a dew point, its aim is 1.0 °C above it.
 SHEETS = """
 201 cold-economy season  273.0    7.0  25.0 0.0350 11.63  75.00 2880 3400 0.2296     0  # chilled water supply
 202 cold-economy season  273.0   12.0  25.0 0.0350 11.63  75.00 2880 3400 0.2296     0  # chilled water return

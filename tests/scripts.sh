@@ -130,7 +130,7 @@ refuses 'a cold economy sheet with aim -1' 'aim is -1, but its field holds the w
     python3 tools/sheet.py $(with 12 -1 "$(with 1 5 "$sheet")")
 
 # a bound is 256 times its high byte plus its low byte, less 65,536 from 32,768 on
-gives 'hot water, 20 mm and up to 7.7 °C' '0 1 0 20 3 0 0 77' python3 tools/sheet.py 1 1 270 207 70 333 2048 7500 2880 1600 2296 0
+gives 'table 4 exchanged, 20 mm and up to 7.7 °C' '0 1 0 20 3 0 0 77' python3 tools/sheet.py 1 1 270 207 70 333 2048 7500 2880 1600 2296 0
 gives 'chilled water, 20 mm and down to 20.0 °C' '0 1 0 20 3 0 0 200' python3 tools/sheet.py 5 1 270 70 207 333 2048 7500 2880 1600 2296 0
 gives 'liquid nitrogen, 50 mm and down to 43.0 °C' '0 2 0 50 3 0 1 174' python3 tools/sheet.py 4 1 12000 -1960 440 200 10000 0 0 0 0 430
 gives 'a t of -196.1 °C' 'refused 13' python3 tools/sheet.py 4 1 12000 -1961 440 200 10000 0 0 0 0 430

@@ -1,6 +1,7 @@
 """Sheets near a border, found by trying: the running sums of the steps are kept, so that a try costs little.
 
-A sheet is here a dictionary of its fields. Only the search uses these figures: what the answer is, tools/sheet.py says.
+A sheet is here a dictionary of its fields. What the answer is, tools/sheet.py says. With these figures tools/sheets.py and
+tools/vectors.py search, and tools/vectors.py compares the answers with them.
 """
 from itertools import accumulate
 from math import gcd
@@ -18,11 +19,10 @@ def packed(x):
 
 
 def fields(r, goal, flat, **fixed):
-    """Good fields at random, apart from an aim: the fixed ones as given. A cold t is drawn below a ta that is given."""
+    """Good fields at random, apart from an aim: the fixed ones as given. A t is drawn on its side of a ta that is given."""
     D = r.randint(10_001, 65_535) if flat else r.choice([r.randint(100, 600), r.randint(100, 10_000)])
-    ta = r.choice([r.randint(-500, 500), r.randint(-20, 20), 200])
+    ta = fixed.get("ta", r.choice([r.randint(-500, 500), r.randint(-20, 20), 200]))
     if goal in COLD_GOALS:
-        ta = fixed.get("ta", ta)
         t = r.randint(max(-1_960, ta - r.choice([300, 1_000, 2_460])), ta - 2)
     else:
         t = r.randint(ta + 2, r.choice([700, 2_000, 6_500]))
@@ -45,7 +45,7 @@ def from_air(x, temperature):
 
 
 def beside_air(x, by):
-    """The temperature that is so far from the air's, on the pipe's side."""
+    """The temperature at that distance from the air's, on the pipe's side."""
     return x["ta"] + direction(x["goal"]) * by
 
 
@@ -102,6 +102,18 @@ def thickness(x):
 def surface_limit(x):
     """The limit of the surface temperature in tenths of a degree."""
     return 500 if x["ta"] <= 270 else x["ta"] + 250
+
+
+def loss_check(x, k):
+    """The loss check of a hot sheet of k mm: 0 within, 1 over, 2 too close, 3 none printed."""
+    limit = loss_limit(x["service"], x["t"])
+    return 3 if limit is None else judge(have(x, k), ratio(*loss_need(x, limit)))
+
+
+def surface_check(x, k):
+    """The surface check of a hot sheet of k mm: 0 within, 1 over, 2 too close."""
+    limit = surface_limit(x)
+    return MEETS if x["t"] <= limit else judge(have(x, k), ratio(*surface_need(x, limit)))
 
 
 def lever(x):

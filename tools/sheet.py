@@ -14,7 +14,7 @@ YEAR_ROUND = [58, 93, 116, 140, 163, 186, 209, 227, 244, 262, 279, 296, 314]
 SEASONAL = [116, 163, 203, 244, 273, 296, 308, 314]
 MEETS, MISSES, OPEN = 0, 1, 2
 NAMES = "goal service line D t ta L alpha f tau P S aim".split()
-GOALS, SURFACE_GOALS, ECONOMY_GOALS, COLD_GOALS = (1, 2, 3, 4, 5), (3, 4), (1, 5), (4, 5)
+GOALS, HOT_GOALS, COLD_GOALS, ECONOMY_GOALS, SURFACE_GOALS = (1, 2, 3, 4, 5), (1, 2, 3), (4, 5), (1, 5), (3, 4)
 
 
 def up(n, d):
@@ -93,34 +93,46 @@ def encoded(name, value, size=2, negative=False):
     return value.to_bytes(size, "big", signed=negative)
 
 
-def answer(sheet):
-    """The refusal's number, or the eight bytes."""
+def unpacked(sheet):
+    """The fields of the 24 bytes, in the order of their names."""
+    values = [sheet[0], sheet[1], *(256 * sheet[i] + sheet[i + 1] for i in range(2, 24, 2))]
+    return [signed(value) if is_signed(name, sheet[0]) else value for name, value in zip(NAMES, values)]
+
+
+def fault(sheet):
+    """The first of the refusals 11 to 16 that holds, or None."""
     if len(sheet) != 24:
         return 11
-    goal, service = sheet[0], sheet[1]
-    _, D, t, ta, L, alpha, f, tau, P, S, aim = (256 * sheet[i] + sheet[i + 1] for i in range(2, 24, 2))
-    t, ta = signed(t), signed(ta)
+    goal, service, _, D, t, ta, L, alpha, f, tau, P, S, aim = unpacked(sheet)
     if goal not in GOALS or service not in (1, 2, 3, 4):
         return 12
-    cold, economy = goal in COLD_GOALS, goal in ECONOMY_GOALS
-    coldest = -1_960 if cold else -500
+    coldest = -1_960 if goal in COLD_GOALS else -500
     within = D >= 100 and coldest <= t <= 6_500 and -500 <= ta <= 500 and 1 <= L <= 2_000 and 100 <= alpha <= 10_000
-    if economy:
+    if goal in ECONOMY_GOALS:
         within = within and f >= 1 and 1 <= tau <= 8_784 and P >= 1 and 1 <= S <= 10_000
     if not within:
         return 13
-    if aim != 0 if economy else (f, tau, P, S) != (0, 0, 0, 0):
+    if aim != 0 if goal in ECONOMY_GOALS else (f, tau, P, S) != (0, 0, 0, 0):
         return 14
-    way = direction(goal)
-    delta, s = way * (t - ta), way * (signed(aim) - ta)
+    delta, s = direction(goal) * (t - ta), direction(goal) * (aim - ta)
     if delta <= 0:
         return 15
     if goal == 2 and aim == 0 or goal in SURFACE_GOALS and not 0 < s < delta:
         return 16
+    return None
 
+
+def answer(sheet):
+    """The refusal's number, or the eight bytes."""
+    refused = fault(sheet)
+    if refused:
+        return refused
+    goal, service, _, D, t, ta, L, alpha, f, tau, P, S, aim = unpacked(sheet)
+    way = direction(goal)
+    delta, s = way * (t - ta), way * (aim - ta)
     n = 2 if D <= 10_000 else 1
     heat = n * L * delta
-    if economy:
+    if goal in ECONOMY_GOALS:
         need = root((14_402_025_000 if n == 2 else 3_598_609_000) * f * L * tau * delta, P * S)
     else:
         need = loss_need(heat, aim) if goal == 2 else surface_need(heat, alpha, s)
@@ -135,7 +147,7 @@ def answer(sheet):
         return 18
 
     loss, surface = 3, MEETS
-    if not cold:
+    if goal in HOT_GOALS:
         limit = loss_limit(service, t)
         loss = 3 if limit is None else judge(h, loss_need(heat, limit))
         limit = 500 if ta <= 270 else ta + 250

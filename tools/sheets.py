@@ -8,19 +8,19 @@ Python 3.11; other versions may draw other sheets.
 """
 import sys
 from collections import Counter
+from itertools import combinations, product
 from random import Random
 
 sys.dont_write_bytecode = True
 from near import (aimed, allowed, beside_air, between, chosen, close_loss, close_surface, edge, fields, have, level, moved, open_at,
                   over_loss, packed, surface_limit, within_loss)
-from sheet import COLD_GOALS, ECONOMY_GOALS, GOALS, SURFACE_GOALS, answer, direction, is_signed, signed
+from sheet import COLD_GOALS, ECONOMY_GOALS, GOALS, HOT_GOALS, NAMES, SURFACE_GOALS, answer, direction, is_signed, signed
 
 F = dict(goal=2, service=1, line=7, D=12_000, t=1_300, ta=200, L=400, alpha=800, f=0, tau=0, P=0, S=0, aim=800)
 G = dict(goal=2, service=1, line=9, D=10_001, t=300, ta=200, L=400, alpha=1_163, f=0, tau=0, P=0, S=0, aim=1_163)
 LINES = [0, 1, 9, 10, 99, 100, 255, 256, 999, 1_000, 9_999, 10_000, 32_767, 32_768, 65_534, 65_535]
-RANGES = dict(D=(100, 65_535), ta=(-500, 500), L=(1, 2_000), alpha=(100, 10_000))
+RANGES = dict(D=(100, 65_535), L=(1, 2_000), alpha=(100, 10_000))
 PRICES = dict(f=(1, 65_535), tau=(1, 8_784), P=(1, 65_535), S=(1, 10_000))
-HOT_GOALS = (1, 2, 3)
 
 
 def coldest(goal):
@@ -66,9 +66,9 @@ def small_pipe(r):
 
 
 def border_diameter(r):
-    """The same line as each of the widest cylinders and of the narrowest flat walls."""
-    x = good(r, D=r.choice([10_000, 10_001]))
-    return [{**x, "D": D} for D in (9_999, 10_000, 10_001, 10_002)]
+    """Under each goal, the same line as each of the widest cylinders and of the narrowest flat walls."""
+    lines = [good(r, (goal,), D=r.choice([10_000, 10_001])) for goal in GOALS]
+    return [{**x, "D": D} for x in lines for D in (9_999, 10_000, 10_001, 10_002)]
 
 
 def any_aim(r):
@@ -105,13 +105,26 @@ def unknown_code(r):
 
 
 def range_edges(r):
-    """Under each goal, each field at each end of its range, and one outside where 16 bits hold that."""
+    """Under each goal, each field at each end of its range, and one outside where 16 bits hold that. With ta the other
+    temperatures are moved by as much, so that both its ends are answered."""
     made = []
     for goal in GOALS:
-        x = chosen(r, goal, r.random() < 0.4, 10 * r.randint(1, 10))
+        way, flat, ta = direction(goal), r.random() < 0.4, r.randint(-400, 400)
+        x = chosen(r, goal, flat, 10 * r.randint(1, 10), ta=ta, t=ta + way * r.randint(30, 1_400))
+        made += [raised(x, v - ta) for v in (-501, -500, 500, 501)]
         for name, (low, high) in {**RANGES, "t": (coldest(goal), 6_500), **(PRICES if goal in ECONOMY_GOALS else {})}.items():
             made += [{**x, name: v} for v in (low - 1, low, high, high + 1) if v <= 65_535]
     return made
+
+
+def raised(x, by):
+    """The sheet with all its temperatures raised."""
+    return {**x, **{name: x[name] + by for name in temperatures(x["goal"])}}
+
+
+def temperatures(goal):
+    """The names of the fields that are temperatures."""
+    return [name for name in NAMES if is_signed(name, goal)]
 
 
 def out_of_range(r):
@@ -154,10 +167,21 @@ def aim_edge(r):
 
 
 def around_zero(r):
-    """A temperature of the air, the pipe or the surface next to zero."""
-    at, by = r.randint(-3, 3), r.randint(3, 400)
-    high, low = r.choice([(at + by, at), (at, at - by), (at + by, at - by)])
-    return [good(r, HOT_GOALS, t=high, ta=low) if r.random() < 0.5 else good(r, COLD_GOALS, t=low, ta=high)]
+    """Under each goal, on a cylinder and on a flat wall, the pipe's temperature, the air's or a surface aim at zero and a tenth
+    from it: all answered."""
+    return [with_temperature(r, goal, flat, name, value) for goal, flat in product(GOALS, (False, True))
+            for name in temperatures(goal) for value in (-1, 0, 1)]
+
+
+def with_temperature(r, goal, flat, name, value):
+    """An answered sheet with a temperature of that name and value."""
+    while True:
+        s, delta = sorted(r.sample(range(1, 400), 2))
+        ta = value - direction(goal) * {"t": delta, "ta": 0, "aim": s}[name]
+        x = fields(r, goal, flat, ta=ta, t=ta + direction(goal) * delta)
+        y = {**x, "aim": value} if name == "aim" else between(r, x, rung(r))
+        if y and not isinstance(answer(packed(y)), int):
+            return y
 
 
 def bound(x):
@@ -172,7 +196,7 @@ def bound_near_zero(r):
         x = chosen(r, *kind(r, (1, 2, 5)), 10 * r.randint(0, 20))
         by = r.choice([r.randint(-12, 12), r.randint(-499, -1), -499, -5, 0]) - bound(x)
         if -500 <= x["ta"] + by <= 500 and coldest(x["goal"]) <= x["t"] + by <= 6_500:
-            return [{**x, "t": x["t"] + by, "ta": x["ta"] + by}]
+            return [raised(x, by)]
 
 
 def last_bounds(r):
@@ -265,7 +289,8 @@ def open_edge(r):
 
 
 def exact_root(r):
-    """An economy sheet whose need is a whole number of nanometres, 18,970 x, and what a rung provides on a flat wall."""
+    """A flat wall under an economy goal whose need is a whole number of nanometres, m times 1,897,000, and just what a rung
+    provides; and the heat prices beside its own."""
     while True:
         goal = r.choice(ECONOMY_GOALS)
         m = r.randint(1, 19 if goal in COLD_GOALS else 60)
@@ -306,6 +331,20 @@ def several_faults(r):
     return [wrapped(x)]
 
 
+def two_faults(r):
+    """Under each goal, each two of the refusals 12 to 16 that it has, by one fault each."""
+    made = []
+    for goal in GOALS:
+        x = good(r, (goal,))
+        unused = "aim" if goal in ECONOMY_GOALS else r.choice(list(PRICES))
+        faults = [dict(service=r.choice([0, 5, 255])), r.choice([dict(D=99), dict(L=0), dict(L=2_001), dict(alpha=99)]),
+                  {unused: 1 << r.randrange(16)}, dict(t=x["ta"])]
+        if goal not in ECONOMY_GOALS:
+            faults.append(dict(aim=0 if goal == 2 else x["ta"]))
+        made += [{**x, **first, **second} for first, second in combinations(faults, 2)]
+    return made
+
+
 def random_bytes(r):
     """A sheet of bytes at random, mostly under known codes."""
     x = good(r)
@@ -314,12 +353,12 @@ def random_bytes(r):
     return [wrapped(x if r.random() < 0.7 else {**x, "goal": r.randint(0, 255), "service": r.randint(0, 255)})]
 
 
-KINDS = [(answered, 260), (small_pipe, 80), (border_diameter, 12), (any_aim, 70), (bare, 40), (top, 40), (beyond, 70),
+KINDS = [(answered, 260), (small_pipe, 80), (border_diameter, 3), (any_aim, 70), (bare, 40), (top, 40), (beyond, 70),
          (unknown_code, 40), (range_edges, 2), (out_of_range, 40), (unused_field, 50), (wrong_side, 30), (other_direction, 20),
-         (aim_edge, 60), (around_zero, 80), (bound_near_zero, 70), (last_bounds, 8), (nitrogen, 15), (row_edge, 20),
+         (aim_edge, 60), (around_zero, 1), (bound_near_zero, 70), (last_bounds, 8), (nitrogen, 15), (row_edge, 20),
          (limit_edges, 2), (no_limit, 30), (surface_edges, 4), (open_small, 36), (open_cylinder, 20), (open_flat, 48),
          (open_bare, 16), (open_top, 16), (open_edge, 20), (exact_root, 8), (exact, 15), (loss_too_close, 40),
-         (surface_too_close, 40), (several_faults, 50), (random_bytes, 30)]
+         (surface_too_close, 40), (several_faults, 50), (two_faults, 2), (random_bytes, 30)]
 
 
 def sheets():

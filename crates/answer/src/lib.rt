@@ -12,7 +12,7 @@ pub enum LossCheck {
     NonePrinted,
 }
 
-// The thickness with its two checks, and the temperature that the surface stays at or below.
+// The thickness with its two checks, and the bound on the surface's temperature: an upper one on a hot line, a lower one on a cold one.
 pub struct Answer {
     pub shape: Shape,
     pub thickness: Thickness,

@@ -56,8 +56,9 @@ pub fn surface_bound(sheet: Sheet, provided: Bounds) -> Temperature
     ensures { λ r. ⌜ r ≡ surfaceBound sheet provided ⌝ }
 {
     let flow = sheet.flow;
-    let most = surface_difference(sheet.line, difference_of(sheet), provided.lower);
-    flow.bound(sheet.temperature, sheet.ambient, most)
+    let difference = difference_of(sheet);
+    let most = surface_difference(sheet.line, difference, provided.lower);
+    flow.bound(sheet.temperature, sheet.ambient, difference, most)
 }
 
 // How far the surface lies beyond the air at the most: 2LΔ × 10⁷ / (α × under-have), and on a flat wall LΔ × 10⁷ / (α × under-have), rounded

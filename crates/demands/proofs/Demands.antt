@@ -25,7 +25,7 @@ use Rattle.book.specs.Book.{newBook, withEntry}
 use Rattle.book.specs.Refusals.{makingCases, filingCases, readingCases}
 use Rattle.demands.specs.Demands.{Demand1, Demand2, Demand3, SurfaceBound, Denominators}
 use Rattle.demands.proofs.Sheets.{answered, answer-thickness, sheet-demand-2}
-use Rattle.demands.proofs.Surface.{on-lower, on-upper, figure-den, surface-den, surface-within}
+use Rattle.demands.proofs.Surface.{figure-den, dens, surface-dens, both-within}
 use Rattle.demands.proofs.ReadingBack.{reads-back, takes-sheets}
 
 pub demand-1 : Demand1
@@ -58,18 +58,14 @@ denominators sheet bytes h m hm r =
     let in-range = answered sheet bytes h .0 .admitted in
     let k = thicknessAt r in
     let le : k .0 ≤ 300 = omega arith in
-    let lower = on-lower s in-range k le m hm in
-    let upper = on-upper s in-range k le m hm in
-    (proper s in-range, lower .pos, upper .pos, figure-den s in-range k le m hm, surface-den s in-range k le m hm _ lower, surface-den s in-range k le m hm _ upper)
+    let exact = dens s in-range k le m hm in
+    let surfaces = surface-dens s in-range k le m hm in
+    (in-range .difference-from, proper s in-range, exact .0, exact .1, figure-den s in-range k le, surfaces .0, surfaces .1)
 
 pub surface-bound : SurfaceBound
 surface-bound sheet bytes h m hm =
-    let s = decoded sheet in
-    let in-range = answered sheet bytes h .0 .admitted in
     let got = sheet-demand-2 sheet .answered bytes h in
-    let k = thicknessAt (got .rung) in
-    let le : k .0 ≤ 300 = omega arith in
-    rw (got .thickness, got .bound) (surface-within s in-range k le m hm _ (on-lower s in-range k le m hm), surface-within s in-range k le m hm _ (on-upper s in-range k le m hm))
+    rw (got .thickness, got .bound) (both-within (decoded sheet) (answered sheet bytes h .0 .admitted) (thicknessAt (got .rung)) (omega arith) m hm)
 
 pub demand-3 : Demand3
 demand-3 sheet bytes h m hm r lt =

@@ -19,7 +19,7 @@ use Rattle.big_endian.proofs.Numerals.{number-bytes}
 use Rattle.big_endian.specs.Bytes.{bigEndian, bytesOf}
 use Rattle.temperatures.specs.Temperature.{decoded as signed, encoded as twosComplement}
 use Rattle.temperatures.proofs.TwosComplement.{turned-back}
-use Rattle.flow.proofs.Differences.{bound-fits}
+use Rattle.heat_flow.proofs.Differences.{bound-fits}
 use Rattle.answer.specs.declared.Answer.{Answer}
 use Rattle.answer.specs.Answer.{encoded}
 use Rattle.sheet.specs.declared.fields.Sheet.{Sheet}

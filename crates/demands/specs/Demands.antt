@@ -1,6 +1,6 @@
 -- The three demands of 00, "What the book must rest on".
 -- Assumes nothing.
-use Prim.Native.Nat.{ℕ, _+_, _-_, _*_, _≤_, _<_}
+use Prim.Native.Nat.{ℕ, _+_, _-_, _≤_, _<_}
 use mathlib.Core.Path.{_≡_}
 use mathlib.Core.Logic.{_⊎_, _↔_}
 use mathlib.Core.List.{List, [], _∷_, _++_}
@@ -13,8 +13,8 @@ use Rattle.lengths.specs.Ladder.{rungs, thicknessAt}
 use Rattle.temperatures.specs.declared.Temperature.{Temperature}
 use Rattle.temperatures.specs.Temperature.{decoded as signed}
 use Rattle.quadrature.specs.Cuttings.{lowerSum, upperSum}
-use Rattle.flow.specs.declared.Flow.{Flow}
-use Rattle.flow.specs.declared.Flow.the-variants.{Outward, Inward}
+use Rattle.heat_flow.specs.declared.HeatFlow.{HeatFlow}
+use Rattle.heat_flow.specs.declared.HeatFlow.the-variants.{Outward, Inward}
 use Rattle.refusals.specs.Cases.{numbers, NoneHolds}
 use Rattle.refusals.specs.Response.{refused, complete, FirstOrComplete}
 use Rattle.line.specs.Line.{shapeOf}
@@ -138,14 +138,14 @@ Demand3 =
     (Meets required (providedExactly (lowerSum m) (s .line) (thicknessAt r)) ×
     ((r ≡ 0) ⊎ Misses required (providedExactly (upperSum m) (s .line) (thicknessAt (r - 1)))))
 
--- how far the surface lies beyond the air by the exact equation, with a thickness k: exact have in place of under-have. This is (5) and (6)
--- of 000, and on a cold line 6.4.
-abbrev pub surfaceExactly : (Diameter → Diameter → Fraction) → Sheet → Thickness → Fraction
-surfaceExactly sum s k = surfaceDifference (s .line) (difference s) (providedExactly sum (s .line) k)
+-- how far the surface lies beyond the air by the exact equation, with a thickness k: exact have in place of under-have. This is what (5) and
+-- (6) of 000 give, and on a cold line (31) and (36).
+abbrev pub surfaceDifferenceExactly : (Diameter → Diameter → Fraction) → Sheet → Thickness → Fraction
+surfaceDifferenceExactly sum s k = surfaceDifference (s .line) (difference s) (providedExactly sum (s .line) k)
 
 -- A surface that lies d beyond the air, of temperature ta, does not lie beyond a bound: outward it is not above it, ta + d ≤ bound, and inward
 -- it is not below it, bound ≤ ta − d.
-abbrev pub NotBeyond : Flow → Temperature → Fraction → Temperature → Type 0
+abbrev pub NotBeyond : HeatFlow → Temperature → Fraction → Temperature → Type 0
 NotBeyond Outward ta d bound = plus (ta .0 over 1) d ≼ bound .0 over 1
 NotBeyond Inward ta d bound = plus (bound .0 over 1) d ≼ ta .0 over 1
 
@@ -157,16 +157,16 @@ SurfaceBound =
     let s = decoded sheet in
     let k = millimetres (bigEndian bytes 2 2) in
     let bound = signed (bigEndian bytes 6 2) in
-    NotBeyond (s .flow) (s .ambient) (surfaceExactly (lowerSum m) s k) bound × NotBeyond (s .flow) (s .ambient) (surfaceExactly (upperSum m) s k) bound
+    NotBeyond (s .flow) (s .ambient) (surfaceDifferenceExactly (lowerSum m) s k) bound × NotBeyond (s .flow) (s .ambient) (surfaceDifferenceExactly (upperSum m) s k) bound
 
--- What demand 3 and the surface bound compare are fractions: no denominator of need is 0, nor of have by either sum, nor of what the surface
--- differs by, for under-have or for exact have.
+-- What demand 3 and the surface bound compare are fractions: no denominator of need is 0, nor of have by either sum, nor of how far the
+-- surface lies beyond the air, for under-have or for exact have. And Δ is above 0.
 abbrev pub Denominators : Type 0
 Denominators =
     (sheet bytes : List ℕ) → responseTo sheet ≡ complete bytes → (m : ℕ) → 1 ≤ m → (r : ℕ) →
     let s = decoded sheet in
     let k = thicknessAt r in
-    (0 < denominator (requirementOf s (goalOf s))) ×
+    (0 < difference s) × (0 < denominator (requirementOf s (goalOf s))) ×
     (0 < providedExactly (lowerSum m) (s .line) k .den) × (0 < providedExactly (upperSum m) (s .line) k .den) ×
     (0 < surfaceDifference (s .line) (difference s) (provided (s .line) k .lower over 1) .den) ×
-    (0 < surfaceExactly (lowerSum m) s k .den) × (0 < surfaceExactly (upperSum m) s k .den)
+    (0 < surfaceDifferenceExactly (lowerSum m) s k .den) × (0 < surfaceDifferenceExactly (upperSum m) s k .den)

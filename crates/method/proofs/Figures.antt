@@ -18,7 +18,7 @@ use Rattle.answer.specs.Answer.{encoded}
 use Rattle.sheet.specs.Answer.{lossCheck, surfaceCheck, surfaceBound, answerOf}
 use Rattle.worked.proofs.Examples.{low, high}
 use Rattle.book.specs.Refusals.{sameBytes}
-use Rattle.method.specs.Method.{Cylinder, Hotter, Between, FlatWall, BetweenRows, Cold, ColdWall, Entry, Method}
+use Rattle.method.specs.Method.{Cylinder, Hotter, Between, FlatWall, BetweenRows, ColdLine, ColdWall, Entry, Method}
 
 the-cylinder : Cylinder
 unfolding summed lowerStep upperStep least insulation film insulationBounds filmBounds provided requirement enclosing firstNotInsufficient bigEndian bytesOf decoded neighbours lossLimit lossCheck surfaceCheck surfaceBound encoded answerOf firstFault respond
@@ -110,7 +110,7 @@ between-rows =
       answer-by-row = refl;
     }
 
-the-cold-line : Cold
+the-cold-line : ColdLine
 unfolding summed lowerStep upperStep least insulation film insulationBounds filmBounds provided requirement enclosing firstNotInsufficient bigEndian bytesOf decoded neighbours lossLimit lossCheck surfaceCheck surfaceBound encoded answerOf firstFault respond
 the-cold-line = record { difference = refl; required = rw (low, high); checks = (refl, refl); bound = refl; answer = rw (low, high) }
 

@@ -47,8 +47,8 @@ abbrev pub wall : ℕ → List ℕ
 wall service = 2 ∷ service ∷ 0 ∷ 8 ∷ 46 ∷ 224 ∷ 5 ∷ 20 ∷ 0 ∷ 200 ∷ 1 ∷ 144 ∷ 4 ∷ 139 ∷ (bytesOf 8 0 ++ (4 ∷ 36 ∷ []))
 
 -- the cylinder as a cold line, and a cold wall
-abbrev pub cold : List ℕ
-cold = 5 ∷ 1 ∷ 0 ∷ 3 ∷ 1 ∷ 14 ∷ 0 ∷ 70 ∷ 0 ∷ 207 ∷ 1 ∷ 77 ∷ 8 ∷ 0 ∷ 29 ∷ 76 ∷ 11 ∷ 64 ∷ 6 ∷ 64 ∷ 8 ∷ 248 ∷ 0 ∷ 0 ∷ []
+abbrev pub coldLine : List ℕ
+coldLine = 5 ∷ 1 ∷ 0 ∷ 3 ∷ 1 ∷ 14 ∷ 0 ∷ 70 ∷ 0 ∷ 207 ∷ 1 ∷ 77 ∷ 8 ∷ 0 ∷ 29 ∷ 76 ∷ 11 ∷ 64 ∷ 6 ∷ 64 ∷ 8 ∷ 248 ∷ 0 ∷ 0 ∷ []
 
 abbrev pub coldWall : List ℕ
 coldWall = 4 ∷ 1 ∷ 0 ∷ 4 ∷ 46 ∷ 224 ∷ 255 ∷ 146 ∷ 0 ∷ 10 ∷ 1 ∷ 144 ∷ 3 ∷ 32 ∷ (bytesOf 8 0 ++ (255 ∷ 246 ∷ []))
@@ -142,12 +142,12 @@ pub record BetweenRows : Type 0 where
   pub answer : responseTo (wall 3) ≡ complete (0 ∷ 2 ∷ 0 ∷ 40 ∷ 0 ∷ 0 ∷ 1 ∷ 32 ∷ [])
   pub answer-by-row : responseTo (wall 1) ≡ complete (0 ∷ 2 ∷ 0 ∷ 40 ∷ 1 ∷ 0 ∷ 1 ∷ 32 ∷ [])
 
-pub record Cold : Type 0 where
-  pub difference : difference (decoded cold) ≡ 137
-  pub required : requiredOf (decoded cold) (goalOf (decoded cold)) ≡ bounds 62_154_864 62_154_865
+pub record ColdLine : Type 0 where
+  pub difference : difference (decoded coldLine) ≡ 137
+  pub required : requiredOf (decoded coldLine) (goalOf (decoded coldLine)) ≡ bounds 62_154_864 62_154_865
   pub checks : (lossLimit 1 (tenthsCelsius 70) ≡ 0) × (surfaceLimit (tenthsCelsius 207) ≡ tenthsCelsius 500)
-  pub bound : surfaceBound (decoded cold) (bounds 64_145_256 64_145_354) ≡ tenthsCelsius 200
-  pub answer : responseTo cold ≡ complete (0 ∷ 1 ∷ 0 ∷ 20 ∷ 3 ∷ 0 ∷ 0 ∷ 200 ∷ [])
+  pub bound : surfaceBound (decoded coldLine) (bounds 64_145_256 64_145_354) ≡ tenthsCelsius 200
+  pub answer : responseTo coldLine ≡ complete (0 ∷ 1 ∷ 0 ∷ 20 ∷ 3 ∷ 0 ∷ 0 ∷ 200 ∷ [])
 
 pub record ColdWall : Type 0 where
   -- −110, 10 and −10 in the count of temperatures
@@ -172,6 +172,6 @@ pub record Method : Type 0 where
   pub between-millimetres : Between
   pub the-flat-wall : FlatWall
   pub between-rows : BetweenRows
-  pub the-cold-line : Cold
+  pub the-cold-line : ColdLine
   pub the-cold-wall : ColdWall
   pub an-entry : Entry

@@ -63,11 +63,6 @@ module _ (l : Line) (m : ℕ) (hα : 1 ≤ l .coefficient) (hD : 1 ≤ l .diamet
   unfolding providedExactly
   upper-provided-den k = quotients-den (fromSum (upperSum m)) k (upper-den m _ _ hm hD)
 
-  -- what is provided is no less than the film
-  pub film-within : (sum : Diameter → Diameter → Fraction) (k : Thickness) → film l ≼ providedExactly sum l k
-  unfolding providedExactly
-  film-within sum k = omega arith
-
   pub provided-below : (k : Thickness) → provided l k .lower over 1 ≼ providedExactly (lowerSum m) l k
   unfolding provided insulationBounds filmBounds providedExactly
   provided-below k =
@@ -92,6 +87,11 @@ module _ (l : Line) (m : ℕ) (hα : 1 ≤ l .coefficient) (hD : 1 ≤ l .diamet
       let E = outerDiameter D k in
       let sums = ≼-trans (lowerSum m D (outerDiameter D j)) (lowerSum m D E) (upperSum m D E) (lower-den m D E) (sum-mono midpoint m D (omega arith)) (enclosed m D E hm hD .sums) in
       quotients-mono (fromSum (lowerSum m)) (fromSum (upperSum m)) le (omega (arith, mul-le-mul-right (10 ^ 5) sums))
+
+-- what is provided is no less than the film
+pub film-within : (sum : Diameter → Diameter → Fraction) (l : Line) (k : Thickness) → film l ≼ providedExactly sum l k
+unfolding providedExactly
+film-within sum l k = omega arith
 
 -- "Flat walls have no sum." (01, "Ladder and figures")
 pub flat-reads-no-sum : (f g : Diameter → Diameter → Fraction) (l : Line) (k : Thickness) → shapeOf l ≡ Flat → providedExactly f l k ≡ providedExactly g l k

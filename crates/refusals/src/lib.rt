@@ -9,8 +9,8 @@ pub enum Refusal {
     UnknownCode,
     OutOfRange,
     NotZero,
-    // No temperature difference that drives heat the way of the goal; a loss aim of 0, or a surface aim that is not between the air and the
-    // pipe.
+    // No temperature difference that drives heat in the goal's direction; a loss aim of 0, or a surface aim that is not between the air and
+    // the pipe.
     NoDrivingDifference,
     InvalidAim,
     // No thickness of the ladder is enough; the first that may be enough is not known to be.

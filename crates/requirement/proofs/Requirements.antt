@@ -48,4 +48,4 @@ pub in-range-proper : (l : Line) (Δ : ℕ) (g : Goal) → LineInRange l → Goa
 unfolding requirement
 in-range-proper l Δ (Economy e) line terms = mul-pos (terms .insulation-from) (terms .share-from)
 in-range-proper l Δ (Loss aim) line some = some
-in-range-proper l Δ (Surface rise) line range = mul-pos {m = l .coefficient} (omega arith) (range .0)
+in-range-proper l Δ (Surface s) line range = mul-pos {m = l .coefficient} (omega arith) (range .0)

@@ -35,9 +35,9 @@ pub fn required(line: Line, difference: u64, goal: Goal) -> Bounds
     match goal {
         Goal::Economy(terms) => economy(line, difference, terms),
         Goal::Loss(aim) => quotient(line.conduction(difference) * 100_000, aim),
-        Goal::Surface(rise) => quotient(
+        Goal::Surface(s) => quotient(
             line.conduction(difference) * 10_000_000,
-            line.coefficient * rise,
+            line.coefficient * s,
         ),
     }
 }

@@ -9,10 +9,10 @@ use native.Mathlib.Omega.{arith}
 use borrow.Author.Tests.{eqb-false, not-false}
 use Rattle.temperatures.specs.declared.Temperature.{Temperature}
 use Rattle.temperatures.specs.Temperature.{zeroDegrees}
-use Rattle.flow.specs.declared.Flow.{Flow}
-use Rattle.flow.specs.declared.Flow.the-variants.{Outward, Inward}
-use Rattle.flow.specs.Flow.{leastTemperature, beyond, temperatureDifference}
-use Rattle.flow.proofs.Differences.{differs, no-more}
+use Rattle.heat_flow.specs.declared.HeatFlow.{HeatFlow}
+use Rattle.heat_flow.specs.declared.HeatFlow.the-variants.{Outward, Inward}
+use Rattle.heat_flow.specs.HeatFlow.{leastTemperature, beyond, temperatureDifference}
+use Rattle.heat_flow.proofs.Differences.{differs, no-more}
 use Rattle.refusals.specs.Cases.{NoneHolds}
 use Rattle.requirement.specs.Ranges.{GoalInRange}
 use Rattle.sheet.specs.declared.fields.GoalCode.{GoalCode}
@@ -49,7 +49,7 @@ goal-in-range s ForSurface fields near aim =
 
 -- the largest difference of a hot line, and that of a cold one
 near-enough :
-    (f : Flow) (t ta : Temperature) → leastTemperature f ≤ t .0 → t .0 ≤ zeroDegrees + 6_500 → zeroDegrees - 500 ≤ ta .0 → ta .0 ≤ zeroDegrees + 500 →
+    (f : HeatFlow) (t ta : Temperature) → leastTemperature f ≤ t .0 → t .0 ≤ zeroDegrees + 6_500 → zeroDegrees - 500 ≤ ta .0 → ta .0 ≤ zeroDegrees + 500 →
     temperatureDifference f t ta ≤ 7_000
 near-enough Outward t ta from to air-from air-to = omega arith
 near-enough Inward t ta from to air-from air-to = omega arith

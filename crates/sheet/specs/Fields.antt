@@ -8,7 +8,7 @@ use Rattle.refusals.specs.declared.Refusal.the-variants.{UnknownCode, OutOfRang
 use Rattle.refusals.specs.Numbers.{numberOf}
 use Rattle.refusals.specs.Range.{outside}
 use Rattle.temperatures.specs.Temperature.{zeroDegrees}
-use Rattle.flow.specs.Flow.{leastTemperature}
+use Rattle.heat_flow.specs.HeatFlow.{leastTemperature}
 use Rattle.sheet.specs.declared.fields.Sheet.{Sheet}
 use Rattle.sheet.specs.declared.faults.Fault.{Fault}
 use Rattle.sheet.specs.declared.faults.Fault.the-variants.{None, At}
@@ -30,7 +30,7 @@ coded o x l m = record { refusal = numberOf UnknownCode; offset = o; value = x; 
 abbrev pub ranged : ℕ → ℕ → ℕ → ℕ → Field
 ranged o x l m = record { refusal = numberOf OutOfRange; offset = o; value = x; least = l; most = m }
 
--- "14: an unused field not zero, or goal 1 with an aim not zero."
+-- "14: an unused field not zero, or goal 1 with an aim not zero."; so goal 5
 abbrev pub unused : ℕ → ℕ → Field
 unused o x = record { refusal = numberOf NotZero; offset = o; value = x; least = 0; most = 0 }
 

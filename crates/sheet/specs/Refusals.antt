@@ -12,7 +12,7 @@ use Rattle.refusals.specs.Numbers.{numberOf}
 use Rattle.refusals.specs.Cases.{Case, case}
 use Rattle.refusals.specs.Response.{Response, respond}
 use Rattle.verdict.specs.Verdict.{isUndecided}
-use Rattle.flow.specs.Flow.{beyond}
+use Rattle.heat_flow.specs.HeatFlow.{beyond}
 use Rattle.sheet.specs.declared.fields.GoalCode.{GoalCode}
 use Rattle.sheet.specs.declared.fields.GoalCode.the-variants.{ForEconomy, ForLoss, ForSurface}
 use Rattle.sheet.specs.declared.fields.Sheet.{Sheet}

@@ -9,9 +9,9 @@ use Rattle.big_endian.specs.Bytes.{bigEndian}
 use Rattle.lengths.specs.Units.{tenths}
 use Rattle.temperatures.specs.declared.Temperature.{Temperature}
 use Rattle.temperatures.specs.Temperature.{decoded as signed}
-use Rattle.flow.specs.declared.Flow.{Flow}
-use Rattle.flow.specs.declared.Flow.the-variants.{Outward, Inward}
-use Rattle.flow.specs.Flow.{temperatureDifference}
+use Rattle.heat_flow.specs.declared.HeatFlow.{HeatFlow}
+use Rattle.heat_flow.specs.declared.HeatFlow.the-variants.{Outward, Inward}
+use Rattle.heat_flow.specs.HeatFlow.{temperatureDifference}
 use Rattle.requirement.specs.declared.Goal.{Goal}
 use Rattle.requirement.specs.declared.Goal.the-variants.{Economy, Loss, Surface}
 use Rattle.sheet.specs.declared.fields.GoalCode.{GoalCode}
@@ -23,7 +23,7 @@ abbrev pub goalCode : ℕ → GoalCode
 goalCode n = cond (eqb n 1 || eqb n 5) ForEconomy (cond (eqb n 2) ForLoss ForSurface)
 
 -- goals 4 and 5 are those of "Cold lines" (02, N4)
-abbrev pub flowOf : ℕ → Flow
+abbrev pub flowOf : ℕ → HeatFlow
 flowOf n = cond (eqb n 4 || eqb n 5) Inward Outward
 
 -- "2–3": the "line number", which no other figure depends on
@@ -51,7 +51,7 @@ usesEconomy ForEconomy = true
 usesEconomy ForLoss = false
 usesEconomy ForSurface = false
 
--- "The aim is zero for goal 1."
+-- "The aim is zero for goal 1.", and for goal 5
 abbrev pub usesAim : GoalCode → Bool
 usesAim ForEconomy = false
 usesAim ForLoss = true

@@ -3,7 +3,7 @@ ghost use mathlib.Core.Path.{_≡_};
 ghost use lib.ListN.{length};
 ghost use Rattle.sheet.specs.Sheet.{goalCode, flowOf, usesEconomy, usesAim, decoded};
 use big_endian::unsigned;
-use flow::Flow;
+use heat_flow::HeatFlow;
 use lengths::Diameter;
 use line::Line;
 use requirement::EconomyTerms;
@@ -52,22 +52,22 @@ impl GoalCode {
     }
 }
 
-// The way of the heat by a goal's code: inward for 4 and 5.
-fn flow_of(code: u64) -> Flow
+// The direction of the heat's flow by a goal's code: inward for 4 and 5.
+fn flow_of(code: u64) -> HeatFlow
     ensures { λ r. ⌜ r ≡ flowOf code ⌝ }
 {
     if (code == 4) | (code == 5) {
-        return Flow::Inward;
+        return HeatFlow::Inward;
     }
-    Flow::Outward
+    HeatFlow::Outward
 }
 
-// The goal's code as it is written and as it is read, the way of the heat, the service, the insulated line, the temperatures t of the pipe
-// and ta of the air, the economy terms, and the aim as it is written.
+// The goal's code as it is written and as it is read, the direction of the heat's flow, the service, the insulated line, the temperatures t
+// of the pipe and ta of the air, the economy terms, and the aim as it is written.
 pub struct Sheet {
     pub code: u64,
     pub goal: GoalCode,
-    pub flow: Flow,
+    pub flow: HeatFlow,
     pub service: u64,
     pub line: Line,
     pub temperature: Temperature,

@@ -54,18 +54,20 @@ pub cold-examples : ColdExamples
 unfolding summed lowerStep upperStep least insulation film insulationBounds filmBounds provided requirement enclosing firstNotInsufficient bigEndian bytesOf decoded neighbours lossLimit lossCheck surfaceCheck surfaceBound encoded answerOf firstFault respond
 cold-examples =
     record {
-      economy-270 = rw (low, high);
       economy-320 = rw (low, high);
       across-zero = refl;
       next-to-zero = refl;
+      goal-6 = refl;
       nitrogen = refl;
       colder = refl;
       hot-50-1 = refl;
       cold-50-1 = refl;
+      aim-of-goal-5 = refl;
+      prices-of-goal-4 = refl;
       at-air = refl;
       above-air = refl;
       aim-at-air = refl;
       aim-at-pipe = refl;
       beyond-the-ladder = refl;
-      open-at-once = refl;
+      open-rung = refl;
     }

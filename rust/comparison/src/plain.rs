@@ -161,7 +161,7 @@ impl Flow {
         self.sign() * (temperature - air)
     }
 
-    /// The temperature that is so far from the air's.
+    /// The temperature at that distance from the air's.
     pub fn temperature(self, from_air: i32, air: i32) -> i32 {
         air + self.sign() * from_air
     }
@@ -278,14 +278,14 @@ impl Sheet {
         self.from_air(self.pipe_temperature)
     }
 
-    /// "s = aim − ta"; on a cold line "s = ta − aim". Test 16 holds it above
-    /// zero and below Δ.
-    pub fn from_air(&self, surface: i16) -> i32 {
+    /// How far a temperature is from ta. For the aim, "s = aim − ta"; on a cold
+    /// line "s = ta − aim". Test 16 holds s above zero and below Δ.
+    pub fn from_air(&self, temperature: i16) -> i32 {
         let flow = self.goal.flow();
-        flow.from_air(surface.into(), self.air_temperature.into())
+        flow.from_air(temperature.into(), self.air_temperature.into())
     }
 
-    /// The temperature that is so far from the air's.
+    /// The temperature at that distance from the air's.
     pub fn temperature_at(&self, from_air: i32) -> i16 {
         let flow = self.goal.flow();
         let temperature = flow.temperature(from_air, self.air_temperature.into());
@@ -447,13 +447,28 @@ pub fn provided_at(sheet: &Sheet, rung: u16) -> Bracket {
     provided(sheet, rung, &mut Logarithm::from_diameter(sheet.diameter))
 }
 
+/// The papers print 2L for a cylinder and L for a flat wall.
+fn factor(shape: Shape) -> u128 {
+    match shape {
+        Shape::Cylinder => 2,
+        Shape::Flat => 1,
+    }
+}
+
+/// 2L × 10⁷, flat L × 10⁷.
+fn film_numerator(sheet: &Sheet) -> u128 {
+    factor(sheet.shape()) * u128::from(sheet.conductivity) * 10_000_000
+}
+
+/// 2L × 10⁷ / α, flat L × 10⁷ / α.
+fn film(sheet: &Sheet) -> Bracket {
+    quotient(film_numerator(sheet), sheet.coefficient.into())
+}
+
 /// Have, "cylinder: E × log / 10⁷ plus 2L × 10⁷ / α".
 fn provided_by_cylinder(sheet: &Sheet, logarithm: &Logarithm) -> Bracket {
     let outer = u128::from(logarithm.outer);
-    let film = quotient(
-        2 * u128::from(sheet.conductivity) * 10_000_000,
-        sheet.coefficient.into(),
-    );
+    let film = film(sheet);
     Bracket {
         lower: outer * u128::from(logarithm.lower) / 10_000_000 + film.lower,
         upper: (outer * u128::from(logarithm.upper)).div_ceil(10_000_000) + film.upper,
@@ -463,10 +478,7 @@ fn provided_by_cylinder(sheet: &Sheet, logarithm: &Logarithm) -> Bracket {
 /// Have, "flat: k × 10⁶ plus L × 10⁷ / α".
 fn provided_by_wall(sheet: &Sheet, rung: u16) -> Bracket {
     let layer = u128::from(rung) * 1_000_000;
-    let film = quotient(
-        u128::from(sheet.conductivity) * 10_000_000,
-        sheet.coefficient.into(),
-    );
+    let film = film(sheet);
     Bracket {
         lower: layer + film.lower,
         upper: layer + film.upper,
@@ -530,22 +542,16 @@ fn required_for_economy(sheet: &Sheet) -> Bracket {
 
 /// Need, "loss: 2LΔ × 10⁵ / aim, flat LΔ × 10⁵ / aim".
 fn required_for_loss(sheet: &Sheet, aim: u128) -> Bracket {
-    let wall = u128::from(sheet.conductivity) * natural(sheet.difference()) * 100_000;
-    match sheet.shape() {
-        Shape::Cylinder => quotient(2 * wall, aim),
-        Shape::Flat => quotient(wall, aim),
-    }
+    let heat = u128::from(sheet.conductivity) * natural(sheet.difference());
+    quotient(factor(sheet.shape()) * heat * 100_000, aim)
 }
 
 /// Need, "surface: 2LΔ × 10⁷ / (αs), flat half of that".
 fn required_for_surface(sheet: &Sheet, aim: i16) -> Bracket {
-    let heat = 2 * u128::from(sheet.conductivity) * natural(sheet.difference());
-    let cylinder = heat * 10_000_000;
-    let divisor = u128::from(sheet.coefficient) * natural(sheet.from_air(aim));
-    match sheet.shape() {
-        Shape::Cylinder => quotient(cylinder, divisor),
-        Shape::Flat => quotient(cylinder, 2 * divisor),
-    }
+    quotient(
+        film_numerator(sheet) * natural(sheet.difference()),
+        u128::from(sheet.coefficient) * natural(sheet.from_air(aim)),
+    )
 }
 
 /// Meets, misses or open.
@@ -732,13 +738,9 @@ fn checks(sheet: &Sheet, provided: Bracket) -> [u8; 2] {
 /// with L in place of 2L, and never above t." On a cold line it is "a lower
 /// one: ta minus the quotient rounded up, and never below t".
 fn surface_bound(sheet: &Sheet, provided: Bracket) -> i16 {
-    let factor = match sheet.shape() {
-        Shape::Cylinder => 2,
-        Shape::Flat => 1,
-    };
     let difference = natural(sheet.difference());
-    let heat = factor * u128::from(sheet.conductivity) * 10_000_000 * difference;
-    let from_air = heat.div_ceil(u128::from(sheet.coefficient) * provided.lower);
+    let numerator = film_numerator(sheet) * difference;
+    let from_air = numerator.div_ceil(u128::from(sheet.coefficient) * provided.lower);
     let from_air = i32::try_from(from_air.min(difference)).expect("at most Δ");
     sheet.temperature_at(from_air)
 }

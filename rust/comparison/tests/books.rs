@@ -2,7 +2,7 @@
 //! each call the whole book is compared.
 
 use comparison::both;
-use comparison::plain::{self, Refusal, HEADER_LENGTH, LARGEST_CAPACITY};
+use comparison::plain::{self, Flow, Refusal, HEADER_LENGTH, LARGEST_CAPACITY};
 use comparison::sheets::{Random, Sheets};
 use std::collections::BTreeMap;
 
@@ -40,6 +40,12 @@ impl Pool {
         let sheets = self.refused.values().nth(number).expect("a number");
         &sheets[random.below(sheets.len())]
     }
+}
+
+/// The flow of a goal's heat, if the goal is known.
+fn flow_of(code: u8) -> Option<Flow> {
+    let goal = plain::GOALS.into_iter().find(|&goal| goal as u8 == code);
+    goal.map(|goal| goal.flow())
 }
 
 /// The state of a test: its sheets, how often each response came, and how many
@@ -168,15 +174,21 @@ impl Trial {
         }
     }
 
-    /// Another goal in each sheet slot: a hot line that is said to be cold, a
-    /// cold one that is said to be hot, a goal that is unknown.
-    fn damage_goals(&mut self, book: &[u8], capacity: usize) {
+    /// Another goal in each sheet slot. A filed entry is refused if the goal is
+    /// unknown, if a hot line is said to be cold, or a cold one hot.
+    fn damage_goals(&mut self, book: &[u8], capacity: usize, entries: usize) {
         for entry in 0..capacity {
             let goal = HEADER_LENGTH + plain::SHEET_LENGTH * entry + plain::GOAL_OFFSET;
             for code in 0..=plain::GOALS.len() as u8 + 1 {
                 let mut damaged = book.to_vec();
                 damaged[goal] = code;
-                self.read(&damaged, entry as u64);
+                let response = both::read(&damaged, entry as u64);
+                if entry >= entries {
+                    assert_eq!(response, Err(33));
+                } else if flow_of(code) != flow_of(book[goal]) {
+                    assert_eq!(response, Err(35), "goal {code} in {book:?}");
+                }
+                self.count("read", response);
             }
         }
     }
@@ -216,7 +228,7 @@ fn small_books() {
         trial.visit(&book);
         trial.damage_header(&book);
         trial.damage_length(&book);
-        trial.damage_goals(&book, capacity);
+        trial.damage_goals(&book, capacity, entries);
         for _ in 0..10 {
             trial.damage_slots(&book, capacity);
         }

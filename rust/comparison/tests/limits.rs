@@ -67,8 +67,8 @@ fn at_every_temperature() {
     }
 }
 
-/// A wall as cold as that in the warmest air, its surface as cold as an aim can
-/// be, or its prices and hours the least.
+/// A wall of that temperature in the warmest air; its aim is the coldest
+/// allowed, or its prices and hours are the least.
 fn cold_wall(goal: Goal, service: Service, pipe: i32) -> Draft {
     let mut draft = wall(service, pipe, plain::AIR_TEMPERATURE.greatest, 1_000, 0);
     draft[plain::GOAL_OFFSET] = goal as u8;

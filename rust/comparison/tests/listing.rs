@@ -67,6 +67,12 @@ fn ducts_are_listed_as_in_the_example() {
     assert_eq!(printed, expected);
 }
 
+#[test]
+fn cold_lines_are_listed_as_in_the_example() {
+    let (printed, expected) = example("cold");
+    assert_eq!(printed, expected);
+}
+
 /// All but line 194, where the exact figures leave the rung open.
 #[test]
 fn a_plant_is_listed_as_in_the_example() {

@@ -2,7 +2,9 @@
 //! from both implementations, the rest from the plain one.
 
 use comparison::both;
-use comparison::plain::{self, Bracket, Logarithm, Refusal, Service, NONE_PRINTED, WITHIN};
+use comparison::plain::{
+    self, Bracket, Field, Goal, Logarithm, Refusal, Service, NONE_PRINTED, WITHIN,
+};
 use comparison::sheets::{put, Draft};
 
 /// A sheet from its codes, line number, D, t, ta, L, α, the four fields of
@@ -172,6 +174,16 @@ fn table_4() {
     }
 }
 
+/// The bound of table 4 as printed: ta is 207 and Δ is 137. Film and have are
+/// in mm.
+fn chilled_water_bound(diameter: i32, thickness: u16) -> i16 {
+    let film = 2.0 * 33.3 / 20.48;
+    let inner = f64::from(diameter) / 10.0;
+    let outer = inner + 2.0 * f64::from(thickness);
+    let have = outer * f64::ln(outer / inner) + film;
+    207 - (137.0 * film / have).ceil() as i16
+}
+
 /// The temperatures as printed give the same thicknesses. At the printed
 /// thickness have is the printed 58.9 mm and a film of 3.25 mm, so that the
 /// surface is 0.72 K below the air; at the next 10 mm it is nearer.
@@ -182,7 +194,8 @@ fn table_4_as_printed() {
         let answer = both::answer(&chilled_water(diameter)).unwrap();
         assert_eq!(answer[..6], [0, 1, 0, next_10 as u8, NONE_PRINTED, WITHIN]);
         let bound = i16::from_be_bytes([answer[6], answer[7]]);
-        assert!((199..207).contains(&bound), "D {diameter}: {bound}");
+        let expected = chilled_water_bound(diameter, next_10);
+        assert_eq!(bound, expected, "D {diameter}");
     }
     // E × ln (E / D) is 67 × 0.909 = 60.9 mm, and 137 × 3.25 / 64.1 is 6.9.
     let answer = both::answer(&chilled_water(270));
@@ -351,6 +364,47 @@ fn ends_of_the_pipe_temperature() {
     }
 }
 
+/// The sheet is answered with the field at either end of its range, and has 13
+/// one beyond. Nothing is beyond 65,535.
+fn assert_ends(draft: Draft, (field, least, greatest): (Field, i32, i32)) {
+    let at = |value| thickness(&with(draft, field.offset, value));
+    let place = field.offset;
+    for value in [least, greatest] {
+        assert!(at(value).is_ok(), "{value} at offset {place}");
+    }
+    assert_eq!(at(least - 1), Err(13), "offset {place}");
+    if greatest < 65_535 {
+        assert_eq!(at(greatest + 1), Err(13), "offset {place}");
+    }
+}
+
+/// The pipe is 0.2 K below the coldest air. For a surface Δ / s is 2 at most,
+/// and heat of the lowest price asks for little.
+#[test]
+fn ends_of_the_other_cold_ranges() {
+    let wall = cold_wall(-502, 200, -501);
+    let economy = with(cold_economy(1), plain::PIPE_TEMPERATURE.offset, -502);
+    let common = [
+        (plain::DIAMETER, 100, 65_535),
+        (plain::AIR_TEMPERATURE, -500, 500),
+        (plain::CONDUCTIVITY, 1, 2_000),
+        (plain::COEFFICIENT, 100, 10_000),
+    ];
+    for range in common {
+        assert_ends(wall, range);
+        assert_ends(economy, range);
+    }
+    let economy_only = [
+        (plain::HEAT_PRICE, 1, 65_535),
+        (plain::HOURS, 1, 8_784),
+        (plain::INSULATION_PRICE, 1, 65_535),
+        (plain::YEARLY_SHARE, 1, 10_000),
+    ];
+    for range in economy_only {
+        assert_ends(economy, range);
+    }
+}
+
 /// "t is below ta" and "with t < aim < ta", on both sides.
 #[test]
 fn cold_temperatures_out_of_order() {
@@ -403,6 +457,58 @@ fn goals() {
             _ => Err(12),
         };
         assert_eq!(thickness(&draft), expected, "goal {code}");
+    }
+}
+
+/// A wall that is answered, for each goal. The air is at 20.0 °C.
+fn good_wall(goal: Goal) -> Draft {
+    let surface = [15, 12_000, 1_300, 200, 400, 800, 0, 0, 0, 0, 400];
+    match goal {
+        Goal::Economy => with(economy(12_000), plain::AIR_TEMPERATURE.offset, 200),
+        Goal::Loss => sheet_f(800),
+        Goal::Surface => sheet([3, 1], surface),
+        Goal::ColdSurface => cold_wall(-300, 200, 100),
+        Goal::ColdEconomy => cold_economy(1_000),
+    }
+}
+
+/// A fault for each refusal from 12 to 16 that the goal can have: its number,
+/// an offset and the value put there. The service becomes 0, α 99, an unused
+/// field or an economy aim 1, t becomes ta, a loss aim 0, a surface aim ta.
+fn faults(goal: Goal) -> Vec<(Refusal, usize, i32)> {
+    let aim = plain::AIM_OFFSET;
+    let (stray, wrong_aim) = match goal {
+        Goal::Economy | Goal::ColdEconomy => (aim, None),
+        Goal::Loss => (plain::HEAT_PRICE.offset, Some((16, aim, 0))),
+        Goal::Surface | Goal::ColdSurface => (plain::HEAT_PRICE.offset, Some((16, aim, 200))),
+    };
+    let mut faults = vec![
+        (12, plain::GOAL_OFFSET, (goal as i32) << 8),
+        (13, plain::COEFFICIENT.offset, 99),
+        (14, stray, 1),
+        (15, plain::PIPE_TEMPERATURE.offset, 200),
+    ];
+    faults.extend(wrong_aim);
+    faults
+}
+
+/// "Tests run in this order." Whichever of the faults hold at once, the lowest
+/// number is given; with that fault repaired, the next one.
+#[test]
+fn the_first_of_several_faults() {
+    for goal in plain::GOALS {
+        let faults = faults(goal);
+        for choice in 0..1 << faults.len() {
+            let mut draft = good_wall(goal);
+            let mut first = None;
+            for (place, &(number, offset, value)) in faults.iter().enumerate() {
+                if choice >> place & 1 == 1 {
+                    put(&mut draft, offset, value);
+                    first.get_or_insert(number);
+                }
+            }
+            assert_eq!(both::answer(&draft).err(), first, "{goal:?}: {draft:?}");
+        }
     }
 }
 

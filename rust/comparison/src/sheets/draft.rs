@@ -40,7 +40,7 @@ pub fn sheet_of(draft: &Draft) -> Option<Sheet> {
 }
 
 /// Every goal with every shape and service. A cold goal has two services each
-/// time: nothing but their codes is read.
+/// time: its answer does not depend on the service.
 pub fn every_sort(random: &mut Random) -> Vec<(Goal, Service, Shape)> {
     let mut sorts = Vec::new();
     for goal in plain::GOALS {

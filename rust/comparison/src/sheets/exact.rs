@@ -122,15 +122,14 @@ fn temperatures_with(random: &mut Random, goal: Goal, difference: i32) -> Option
 
 /// Walls whose need, for the aim or at a limit, equals have.
 pub fn wall(random: &mut Random, sheets: &mut Batch) {
-    let makers: [fn(&mut Random) -> Option<Draft>; 5] = [
-        loss_wall,
-        surface_wall,
-        surface_wall,
-        loss_limit_wall,
-        surface_limit_wall,
-    ];
+    let makers: [fn(&mut Random) -> Option<Draft>; 3] =
+        [loss_wall, loss_limit_wall, surface_limit_wall];
     for maker in makers {
         push_found(random, plain::AIM_OFFSET, maker, sheets);
+    }
+    for goal in SURFACE {
+        let make = |random: &mut Random| surface_wall(random, goal);
+        push_found(random, plain::AIM_OFFSET, make, sheets);
     }
 }
 
@@ -144,9 +143,8 @@ fn loss_wall(random: &mut Random) -> Option<Draft> {
 }
 
 /// Need for the surface aim equals have.
-fn surface_wall(random: &mut Random) -> Option<Draft> {
+fn surface_wall(random: &mut Random, goal: Goal) -> Option<Draft> {
     let wall = Wall::any(random);
-    let goal = random.pick(&SURFACE);
     let flow = goal.flow();
     let bounds = (largest(flow).into(), largest(flow).into());
     let (difference, from_air) = in_ratio(random, wall.surface_ratio(), bounds)?;

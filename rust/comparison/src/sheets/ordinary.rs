@@ -177,7 +177,7 @@ fn put_about_zero(random: &mut Random, draft: &mut Draft) {
 /// are high as well, so that a rung is found.
 pub fn widest_product(random: &mut Random, sheets: &mut Batch) {
     let (_, service, shape) = any_sort(random);
-    for goal in [Goal::Economy, Goal::Economy, Goal::ColdEconomy] {
+    for goal in ECONOMY {
         let mut draft = any_draft(random, (goal, service, shape));
         let others = [
             plain::CONDUCTIVITY,

@@ -2,6 +2,7 @@
 
 use super::draft::{
     any_draft, any_sort, ends, get_temperatures, goal_of, put, put_field, put_temperatures, Draft,
+    ECONOMY,
 };
 use super::{Batch, Random};
 use crate::plain::{self, Field, Flow, Method};
@@ -52,8 +53,11 @@ pub fn beyond_range(random: &mut Random, sheets: &mut Batch) {
         for (end, step) in ends(field) {
             let value = end + step;
             if representable(field, value) {
-                let sort = any_sort(random);
-                let mut draft = any_draft(random, sort);
+                let (mut goal, service, shape) = any_sort(random);
+                if field.economy_only {
+                    goal = random.pick(&ECONOMY);
+                }
+                let mut draft = any_draft(random, (goal, service, shape));
                 put_field(&mut draft, field, value);
                 sheets.push(draft.to_vec());
             }
@@ -62,7 +66,7 @@ pub fn beyond_range(random: &mut Random, sheets: &mut Batch) {
     faulty(random, sheets, 2, put_beyond_range);
 }
 
-/// Two or three faults at once: the first listed one counts.
+/// Up to three faults at once: the first listed one counts.
 pub fn several_faults(random: &mut Random, sheets: &mut Batch) {
     let faults: [Fault; 5] = [
         put_unknown_code,

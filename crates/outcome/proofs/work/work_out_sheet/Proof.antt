@@ -7,7 +7,7 @@ use Prim.Native.Nat.{ℕ}
 use lib.ListN.{take}
 use Rattle.refusals.specs.Cases.{Case, NoneHolds}
 use Rattle.refusals.proofs.Response.{later, first-at, none-more}
-use Rattle.flow.specs.Flow.{beyond}
+use Rattle.heat_flow.specs.HeatFlow.{beyond}
 use Rattle.answer.specs.Answer.{encoded}
 use Rattle.sheet.specs.declared.fields.Sheet.{Sheet}
 use Rattle.sheet.specs.Fields.{fields, firstFault, isFault}

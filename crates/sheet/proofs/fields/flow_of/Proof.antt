@@ -1,4 +1,4 @@
--- The way of the heat by a goal's code meets its contract.
+-- The direction of the heat's flow by a goal's code meets its contract.
 -- Assumes nothing.
 use Rattle.sheet.proofs.fields.flow_of.Statement.{statement}
 use Rattle.sheet.proofs.fields.flow_of.Tie as tie

@@ -1,7 +1,6 @@
 -- A goal by its code meets its contract.
 -- Assumes nothing.
 use borrow.Author.Tests.{eq-eqb, ne-eqb}
-use borrow.Author.Needs.{needs}
 use Rattle.sheet.proofs.fields.GoalCode.of.Statement.{statement}
 use Rattle.sheet.proofs.fields.GoalCode.of.Tie as tie
 

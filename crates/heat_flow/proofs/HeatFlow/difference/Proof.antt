@@ -1,9 +1,9 @@
--- `Flow::difference` meets its contract.
+-- `HeatFlow::difference` meets its contract.
 -- Assumes nothing.
 use native.Mathlib.Omega.{arith}
 use borrow.Author.Needs.{needs}
-use Rattle.flow.proofs.Flow.difference.Statement.{statement}
-use Rattle.flow.proofs.Flow.difference.Tie as tie
+use Rattle.heat_flow.proofs.HeatFlow.difference.Statement.{statement}
+use Rattle.heat_flow.proofs.HeatFlow.difference.Tie as tie
 
 pub difference-spec : {M : Type 1} → statement M
 difference-spec =

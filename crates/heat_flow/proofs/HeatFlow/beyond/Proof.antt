@@ -1,8 +1,8 @@
--- `Flow::beyond` meets its contract.
+-- `HeatFlow::beyond` meets its contract.
 -- Assumes nothing.
 use borrow.Author.Needs.{needs}
-use Rattle.flow.proofs.Flow.beyond.Statement.{statement}
-use Rattle.flow.proofs.Flow.beyond.Tie as tie
+use Rattle.heat_flow.proofs.HeatFlow.beyond.Statement.{statement}
+use Rattle.heat_flow.proofs.HeatFlow.beyond.Tie as tie
 
 pub beyond-spec : {M : Type 1} → statement M
 beyond-spec =
