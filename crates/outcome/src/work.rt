@@ -5,7 +5,7 @@ ghost use Prim.Native.Nat.{_<_};
 ghost use Rattle.lengths.specs.Ladder.{rungs, thicknessAt};
 ghost use Rattle.refusals.specs.Response.{respond};
 ghost use Rattle.provision.specs.Provided.{provided as Provided·provided};
-ghost use Rattle.sheet.specs.Sheet.{goalOf};
+ghost use Rattle.sheet.specs.Sheet.{difference as Sheet·difference, goalOf};
 ghost use Rattle.sheet.specs.Search.{requiredOf, chosen};
 ghost use Rattle.answer.specs.Answer.{encoded};
 ghost use Rattle.sheet.specs.Answer.{answerOf};
@@ -13,15 +13,16 @@ ghost use Rattle.sheet.specs.Refusals.{valueCases, ladderCases, responseTo};
 ghost use Rattle.outcome.specs.Outcome.{response};
 ghost use Rattle.sheet.specs.Admitted.{Admitted};
 use answer::Answer;
+use checks::difference_of;
 use checks::goal_of;
 use checks::loss_check;
-use checks::required_by;
 use checks::surface_bound;
 use checks::surface_check;
 use fractions::Bounds;
 use lengths::Ladder;
 use provision::Provision;
 use refusals::Refusal;
+use requirement::required;
 use sheet::Sheet;
 use verdict::Choice;
 use verdict::judge;
@@ -70,35 +71,36 @@ fn search_ladder(sheet: Sheet) -> Outcome
     requires { ⌜ Admitted sheet ⌝ }
     ensures { λ o. ⌜ response o ≡ respond (ladderCases sheet) (encoded (answerOf sheet (chosen sheet))) ⌝ }
 {
-    let required = required_by(sheet, goal_of(sheet));
-    match search(Provision::of(sheet.line), required) {
+    let difference = difference_of(sheet);
+    let need = required(sheet.line, difference, goal_of(sheet));
+    match search(Provision::of(sheet.line), need) {
         Choice::AllInsufficient => Outcome::Refused(Refusal::NoneSufficient),
-        Choice::Rung(r, provided) => judge_rung(sheet, required, r, provided),
+        Choice::Rung(r, provided) => judge_rung(sheet, difference, need, r, provided),
     }
 }
 
 // Judges the first rung that does not miss: its index is r, and its have `provided`.
-fn judge_rung(sheet: Sheet, required: Bounds, r: u64, provided: Bounds) -> Outcome
-    requires { ⌜ Admitted sheet × (required ≡ requiredOf sheet (goalOf sheet)) ⌝ }
+fn judge_rung(sheet: Sheet, difference: u64, need: Bounds, r: u64, provided: Bounds) -> Outcome
+    requires { ⌜ Admitted sheet × (difference ≡ Sheet·difference sheet) × (need ≡ requiredOf sheet (goalOf sheet)) ⌝ }
     requires { ⌜ (r ≡ chosen sheet) × (r < rungs) × (provided ≡ Provided·provided (sheet .line) (thicknessAt r)) ⌝ }
     ensures { λ o. ⌜ response o ≡ respond (ladderCases sheet) (encoded (answerOf sheet (chosen sheet))) ⌝ }
 {
-    if judge(provided, required).is_undecided() {
+    if judge(provided, need).is_undecided() {
         return Outcome::Refused(Refusal::TooClose);
     }
-    Outcome::Answered(answer_of(sheet, r, provided))
+    Outcome::Answered(answer_of(sheet, difference, r, provided))
 }
 
 // The answer with the rung of index r, whose have is `provided`.
-fn answer_of(sheet: Sheet, r: u64, provided: Bounds) -> Answer
-    requires { ⌜ Admitted sheet × (provided ≡ Provided·provided (sheet .line) (thicknessAt r)) ⌝ }
+fn answer_of(sheet: Sheet, difference: u64, r: u64, provided: Bounds) -> Answer
+    requires { ⌜ Admitted sheet × (difference ≡ Sheet·difference sheet) × (provided ≡ Provided·provided (sheet .line) (thicknessAt r)) ⌝ }
     ensures { λ a. ⌜ a ≡ answerOf sheet r ⌝ }
 {
     Answer {
         shape: sheet.line.shape(),
         thickness: Ladder::thickness(r),
-        loss: loss_check(sheet, provided),
-        surface: surface_check(sheet, provided),
-        bound: surface_bound(sheet, provided),
+        loss: loss_check(sheet, difference, provided),
+        surface: surface_check(sheet, difference, provided),
+        bound: surface_bound(sheet, difference, provided),
     }
 }

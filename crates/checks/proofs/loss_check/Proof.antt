@@ -5,9 +5,9 @@ use Prim.Native.Nat.{ℕ}
 use borrow.Author.Tests.{eq-eqb, ne-eqb}
 use Rattle.requirement.specs.declared.Goal.the-variants.{Loss}
 use Rattle.verdict.specs.Verdict.{judged}
+use Rattle.limits.specs.Limits.{lossLimit}
 use Rattle.answer.specs.declared.LossCheck.the-variants.{Judged}
 use Rattle.sheet.specs.Search.{requiredOf}
-use Rattle.limits.specs.Limits.{lossLimit}
 use Rattle.sheet.specs.Answer.{lossCheck}
 use borrow.Author.Needs.{needs}
 use Rattle.checks.proofs.loss_check.Statement.{statement}
@@ -22,10 +22,11 @@ returns c =
 returns-2 : tie.Need-returns-2
 unfolding lossCheck
 returns-2 c =
-    let a = c .before .before .before .before .args in
+    let start = c .before .before .before .before in
+    let s = start .args .sheet in
     let limit = c .before .before .before .loss-limit .ensures in
-    let verdict = c .judge .ensures ∙ ap (judged (a .provided)) (c .before .required-by .ensures) ∙ ap (λ (x : ℕ). judged (a .provided) (requiredOf (a .sheet) (Loss x))) limit in
-    rw (ne-eqb (lossLimit (a .sheet .service) (a .sheet .temperature)) 0 (λ e. c .before .before .if1 .left (limit ∙ e))) (ap Judged verdict)
+    rw (ne-eqb (lossLimit (s .service) (s .temperature)) 0 (λ e. c .before .before .if1 .left (limit ∙ e)), c .judge .ensures, c .before .required .ensures, start .pre .1)
+    (ap (λ (x : ℕ). Judged (judged (start .args .provided) (requiredOf s (Loss x)))) limit)
 
 pub loss-check-spec : {M : Type 1} → statement M
 loss-check-spec =

@@ -7,7 +7,7 @@ use Rattle.checks.proofs.surface_bound.Tie as tie
 
 returns : tie.Need-returns
 unfolding surfaceBound
-returns c = rw (c .bound .ensures, c .before .surface-difference .ensures, c .before .before .difference-of .ensures)
+returns c = rw (c .bound .ensures, c .before .surface-difference .ensures, c .before .before .pre .1)
 
 pub surface-bound-spec : {M : Type 1} → statement M
-surface-bound-spec = tie.close (tie.spec (λ c κs. search needs) (λ c κs. search needs) (λ c κs. search needs) returns)
+surface-bound-spec = tie.close (tie.spec (λ c κs. search needs) (λ c κs. search needs) returns)

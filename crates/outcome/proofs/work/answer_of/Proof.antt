@@ -13,15 +13,15 @@ surface-bound-requires : tie.Need-surface-bound-requires
 surface-bound-requires c κs =
     let start = c .before .before .before .before in
     let s = start .args .sheet in
-    let size = rw (← start .pre .1) at (provided-size (s .line) (thicknessAt (start .args .r)) (start .pre .0 .line) (start .pre .0 .conductivity-from) (omega arith)) in
-    (start .pre .0, size .0, size .1)
+    let size = rw (← start .pre .2) at (provided-size (s .line) (thicknessAt (start .args .r)) (start .pre .0 .line) (start .pre .0 .conductivity-from) (omega arith)) in
+    (start .pre .0, start .pre .1, size .0, size .1)
 
 returns : tie.Need-returns
 unfolding answerOf
 returns c =
     let start = c .before .before .before .before .before in
     let s = start .args .sheet in
-    let provided = start .pre .1 in
+    let provided = start .pre .2 in
     let loss = c .before .before .loss-check .ensures ∙ ap (lossCheck s) provided in
     let surface = c .before .surface-check .ensures ∙ ap (surfaceCheck s) provided in
     let bound = c .surface-bound .ensures ∙ ap (surfaceBound s) provided in

@@ -21,8 +21,8 @@ verdict c =
     let start = c .before .before in
     let a = start .args in
     let pre = start .pre in
-    let had = ap (λ (p : Bounds). judged p (a .required)) (pre .1 .2) in
-    let needed = ap (judged (provided (a .sheet .line) (thicknessAt (a .r)))) (pre .0 .1) in
+    let had = ap (λ (p : Bounds). judged p (a .need)) (pre .1 .2) in
+    let needed = ap (judged (provided (a .sheet .line) (thicknessAt (a .r)))) (pre .0 .2) in
     c .is-undecided .ensures ∙ ap isUndecided (c .before .judge .ensures ∙ had ∙ needed ∙ ap (verdicts (a .sheet)) (pre .1 .0))
 
 returns : tie.Need-returns
@@ -34,7 +34,7 @@ returns c =
 answer-of-requires : tie.Need-answer-of-requires
 answer-of-requires c κs =
     let pre = c .before .before .before .pre in
-    (pre .0 .0, pre .1 .2)
+    (pre .0 .0, pre .0 .1, pre .1 .2)
 
 returns-2 : tie.Need-returns-2
 returns-2 c =

@@ -16,31 +16,36 @@ use Rattle.outcome.proofs.work.search_ladder.Tie as tie
 
 -- what is required, and what the search told
 found :
-    (c : tie.After-search) → let s = c .before .before .before .before .args .sheet in
-    (c .before .before .required-by .result ≡ requiredOf s (goalOf s)) × Told (s .line) (requiredOf s (goalOf s)) (c .search .result)
+    (c : tie.After-search) → let s = c .before .before .before .before .before .args .sheet in
+    (c .before .before .required .result ≡ requiredOf s (goalOf s)) × Told (s .line) (requiredOf s (goalOf s)) (c .search .result)
 unfolding provision
 found c =
-    let s = c .before .before .before .before .args .sheet in
-    let required = c .before .before .required-by .ensures ∙ ap (requiredOf s) (c .before .before .before .goal-of .ensures) in
-    let is = c .search .ensures ∙ ap (λ (p : Provision). searched (p .line) (c .before .before .required-by .result)) (c .before .of .ensures) ∙ ap (searched (s .line)) required in
-    (required, rw is (told (s .line) (requiredOf s (goalOf s))))
+    let goal = c .before .before .before in
+    let s = goal .before .before .args .sheet in
+    let need : c .before .before .required .result ≡ requiredOf s (goalOf s) = rw (c .before .before .required .ensures, goal .before .difference-of .ensures, goal .goal-of .ensures) in
+    let is = c .search .ensures ∙ ap (λ (p : Provision). searched (p .line) (c .before .before .required .result)) (c .before .of .ensures) ∙ ap (searched (s .line)) need in
+    (need, rw is (told (s .line) (requiredOf s (goalOf s))))
 
-required-by-requires : tie.Need-required-by-requires
-required-by-requires c κs = (c .before .pre, rw (c .goal-of .ensures) (c .before .pre .goal))
+required-requires : tie.Need-required-requires
+required-requires c κs =
+    let pre = c .before .before .pre in
+    (pre .line, rw (c .before .difference-of .ensures) (pre .difference-to), rw (c .goal-of .ensures) (pre .goal))
 
 search-requires : tie.Need-search-requires
 unfolding provision
-search-requires c κs = rw (c .of .ensures) (c .before .before .before .pre .line, refl)
+search-requires c κs = rw (c .of .ensures) (c .before .before .before .before .pre .line, refl)
 
 judge-rung-requires : tie.Need-judge-rung-requires
 judge-rung-requires c κs =
-    let rung = rw (c .before .r .given .1) at (found (c .before .before .before) .1) in
-    ((c .before .before .before .before .before .before .before .pre, found (c .before .before .before) .0), (rung .0, rw (rung .0) (rung .1), rung .2))
+    let search = c .before .before .before in
+    let difference = search .before .before .before .before in
+    let rung = rw (c .before .r .given .1) at (found search .1) in
+    ((difference .before .pre, difference .difference-of .ensures, found search .0), (rung .0, rw (rung .0) (rung .1), rung .2))
 
 returns : tie.Need-returns
 returns c =
     let search = c .before .before in
-    let s = search .before .before .before .before .args .sheet in
+    let s = search .before .before .before .before .before .args .sheet in
     sym (all-insufficient s (encoded (answerOf s (chosen s))) (rw (c .enum-told .given .1) at (found search .1)))
 
 returns-2 : tie.Need-returns-2
@@ -51,7 +56,8 @@ search-ladder-spec =
     tie.close
     (tie.spec
     (λ c κs. search needs)
-    required-by-requires
+    (λ c κs. search needs)
+    required-requires
     (λ c κs. search needs)
     search-requires
     (λ c. search needs)
