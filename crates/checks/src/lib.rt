@@ -62,8 +62,8 @@ pub fn surface_bound(sheet: Sheet, difference: u64, provided: Bounds) -> Tempera
     flow.bound(sheet.temperature, sheet.ambient, difference, most)
 }
 
-// How far the surface lies beyond the air at the most: 2LΔ × 10⁷ / (α × under-have), and on a flat wall LΔ × 10⁷ / (α × under-have), rounded
-// up.
+// How far the surface lies beyond the air at the most: 2LΔ × 10⁷ / (α × under-have), and on a flat wall LΔ × 10⁷ / (α × under-have),
+// rounded up.
 fn surface_difference(line: Line, difference: u64, lower: u64) -> u64
     requires { ⌜ LineInRange line × (difference ≤ 7_000) × (1 ≤ lower) × (lower ≤ 2 ^ 40) ⌝ }
     ensures { λ r. ⌜ r ≡ ceiling (surfaceDifference line difference (lower over 1)) ⌝ }

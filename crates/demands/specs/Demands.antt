@@ -1,4 +1,4 @@
--- The three demands of 00, "What the book must rest on".
+-- The three demands of 00, "What the book must rest on", and that the surface bound holds.
 -- Assumes nothing.
 use Prim.Native.Nat.{ℕ, _+_, _-_, _≤_, _<_}
 use mathlib.Core.Path.{_≡_}
@@ -138,13 +138,13 @@ Demand3 =
     (Meets required (providedExactly (lowerSum m) (s .line) (thicknessAt r)) ×
     ((r ≡ 0) ⊎ Misses required (providedExactly (upperSum m) (s .line) (thicknessAt (r - 1)))))
 
--- how far the surface lies beyond the air by the exact equation, with a thickness k: exact have in place of under-have. This is what (5) and
--- (6) of 000 give, and on a cold line (31) and (36).
+-- how far the surface lies beyond the air by the exact equation, with a thickness k: exact have in place of under-have. This is what (5)
+-- and (6) of 000 give, and on a cold line (31) and (36).
 abbrev pub surfaceDifferenceExactly : (Diameter → Diameter → Fraction) → Sheet → Thickness → Fraction
 surfaceDifferenceExactly sum s k = surfaceDifference (s .line) (difference s) (providedExactly sum (s .line) k)
 
--- A surface that lies d beyond the air, of temperature ta, does not lie beyond a bound: outward it is not above it, ta + d ≤ bound, and inward
--- it is not below it, bound ≤ ta − d.
+-- A surface that lies d beyond the air, of temperature ta, does not lie beyond a bound: outward ta + d is not above it, and inward ta − d is
+-- not below it, which is said as bound + d ≤ ta.
 abbrev pub NotBeyond : HeatFlow → Temperature → Fraction → Temperature → Type 0
 NotBeyond Outward ta d bound = plus (ta .0 over 1) d ≼ bound .0 over 1
 NotBeyond Inward ta d bound = plus (bound .0 over 1) d ≼ ta .0 over 1

@@ -17,7 +17,8 @@ standsAt b offset =
     cond (ltb offset 2) (getD b offset 0) (cond (eqb offset 6 || eqb offset 8) (signed (bigEndian b offset 2) .0) (bigEndian b offset 2))
 
 pub record Offsets : Type 0 where
-  -- the list of fields and ranges has every field but the line number, in the order of their offsets; the aim is in it for goals 1 and 5 only
+  -- the list of fields and ranges has every field but the line number, in the order of their offsets; the aim is in it for goals 1 and 5
+  -- only
   pub order :
       (b : List ℕ) →
       map (λ (f : Field). f .offset) (fields (decoded b)) ≡

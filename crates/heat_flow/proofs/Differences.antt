@@ -1,5 +1,5 @@
--- A temperature beyond the air's differs from it; one that the pipe lies beyond differs from the air's by no more than the pipe's; how far a
--- bound lies beyond the air.
+-- A temperature beyond the air's differs from it; one that the pipe lies beyond differs from the air's by no more than the pipe's; how far
+-- a bound lies beyond the air.
 -- Assumes nothing.
 use mathlib.Core.Path.{_≡_}
 use mathlib.Core.Bool.{true}

@@ -1,4 +1,4 @@
--- What a goal requires, the paper's need, in nanometres. 01, "Ladder and figures".
+-- What a goal requires, the paper's need, in nanometres. 01, "Ladder and figures", and 02, N4.
 -- Assumes nothing.
 use Prim.Native.Nat.{ℕ, _*_, _^_}
 use Rattle.fractions.specs.declared.Bounds.{Bounds}
@@ -26,8 +26,8 @@ economyFactor Flat = 3_598_609_000
 -- 3.795×10⁻³ and 1.897×10⁻³ as printed, squared)"
 -- "loss: 2LΔ × 10⁵ / aim, flat LΔ × 10⁵ / aim"
 -- "surface: 2LΔ × 10⁷ / (αs), flat half of that"
--- The equations for cold lines are the same, with Δ = ta − t and s = ta − aim: in 000, (7) and (8) have the coefficients of (1) and (2), and
--- print t − ta, which 02 reads as Δ; (9) and (13) are what (3) to (6) give for a surface temperature.
+-- The equations for cold lines are the same, with Δ = ta − t and s = ta − aim: in 000, (7) and (8) have the coefficients of (1) and (2),
+-- and print t − ta, which 02 reads as Δ; (9) and (13) are what (3) to (6) give for a surface temperature.
 unfoldable pub requirement : Line → ℕ → Goal → Requirement
 requirement l Δ (Economy e) =
     root ((economyFactor (shapeOf l) * (e .heat * l .conductivity * e .hours * Δ)) over (e .insulation * e .share))

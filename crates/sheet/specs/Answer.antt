@@ -33,8 +33,8 @@ lossCheck s p =
     let limit = lossLimit (s .service) (s .temperature) in
     cond (eqb limit 0) NonePrinted (Judged (judged p (requiredOf s (Loss limit))))
 
--- "the surface check does so with the limit in place of aim. A t at or below the surface limit is within." "Both checks of a cold sheet read 0
--- for surface and 3 for loss" (02, N4) by these same rules, as `ColdLines` promises.
+-- "the surface check does so with the limit in place of aim. A t at or below the surface limit is within." "Both checks of a cold sheet
+-- read 0 for surface and 3 for loss" (02, N4) by these same rules, as `ColdLines` promises.
 unfoldable pub surfaceCheck : Sheet → Bounds → Verdict
 surfaceCheck s p =
     let limit = surfaceLimit (s .ambient) in

@@ -9,7 +9,7 @@ use line::Line;
 use requirement::EconomyTerms;
 use temperatures::Temperature;
 
-// What a goal's code says: 1 and 5 economy, 2 loss, and every other surface.
+// The kind of goal by its code: 1 and 5 economy, 2 loss, and every other surface.
 pub enum GoalCode {
     ForEconomy,
     ForLoss,

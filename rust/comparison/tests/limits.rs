@@ -86,8 +86,9 @@ fn cold_wall(goal: Goal, service: Service, pipe: i32) -> Draft {
 fn at_every_cold_temperature() {
     let field = plain::PIPE_TEMPERATURE;
     for service in plain::SERVICES {
-        for pipe in field.cold_least..=plain::AIR_TEMPERATURE.greatest - 2 {
-            for goal in [Goal::ColdSurface, Goal::ColdEconomy] {
+        // An aim needs a tenth of a degree on either side of it.
+        for (goal, below_air) in [(Goal::ColdSurface, 2), (Goal::ColdEconomy, 1)] {
+            for pipe in field.cold_least..=plain::AIR_TEMPERATURE.greatest - below_air {
                 let answer = both::answer(&cold_wall(goal, service, pipe)).expect("a thickness");
                 let checks = [answer[4], answer[5]];
                 assert_eq!(checks, [NONE_PRINTED, WITHIN], "{service:?} at {pipe}");
