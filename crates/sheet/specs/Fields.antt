@@ -30,7 +30,7 @@ coded o x l m = record { refusal = numberOf UnknownCode; offset = o; value = x; 
 abbrev pub ranged : ℕ → ℕ → ℕ → ℕ → Field
 ranged o x l m = record { refusal = numberOf OutOfRange; offset = o; value = x; least = l; most = m }
 
--- "14: an unused field not zero, or goal 1 with an aim not zero."; so goal 5
+-- "14: an unused field not zero, or goal 1 with an aim not zero."; goal 5 is like goal 1 here
 abbrev pub unused : ℕ → ℕ → Field
 unused o x = record { refusal = numberOf NotZero; offset = o; value = x; least = 0; most = 0 }
 

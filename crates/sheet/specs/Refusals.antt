@@ -38,7 +38,7 @@ valueCases s =
     case (numberOf UnknownCode) (faulty s UnknownCode) ∷
     -- "13: a field outside its range."
     case (numberOf OutOfRange) (faulty s OutOfRange) ∷
-    -- "14: an unused field not zero, or goal 1 with an aim not zero."; so goal 5
+    -- "14: an unused field not zero, or goal 1 with an aim not zero."; goal 5 is like goal 1 here
     case (numberOf NotZero) (faulty s NotZero) ∷
     -- "15: t not above ta."; for goals 4 and 5, for which "t is below ta" (02, N4), t not below ta
     case (numberOf NoDrivingDifference) (not (beyond (s .flow) (s .temperature) (s .ambient))) ∷
