@@ -11,7 +11,7 @@ pub enum Shape {
     Flat,
 }
 
-// D, L and α: the diameter, the insulation's conductivity in 0.0001 W/(typeof.m.K) and the surface coefficient in 0.01 W/(typeof.m².K).
+// D, L and α: the diameter, the insulation's conductivity in 0.0001 W/(m·K) and the surface coefficient in 0.01 W/(m²·K).
 #[derive(Drop)]
 pub struct Line {
     pub diameter: Diameter,

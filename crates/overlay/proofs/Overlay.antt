@@ -26,14 +26,12 @@ overlay_first [] offset x v fits = absurd (omega arith)
 overlay_first (y ∷ b) zero x v fits = rw (suc-add 0 (length v), zero-add (length v), zero-add (suc (length v)))
 overlay_first (y ∷ b) (suc k) x v fits = rw (suc-add (suc k) (length v), suc-add k (suc (length v)), overlay_first b k x v (omega arith))
 
--- what `bytes::copy` leaves of the part from an offset on, back in its place
-pub put_back : (b : List ℕ) (offset : ℕ) (v part : List ℕ) → offset + length v ≤ length b →
-    part ≡ take (length v) v ++ drop (length v) (mid_of offset (length b - offset) b) → put_mid offset (length b - offset) b part ≡ overlay b offset v
+-- a part that was copied into, back in its place
+pub put_back : (b : List ℕ) (offset : ℕ) (v part : List ℕ) → offset + length v ≤ length b → part ≡ v → put_mid offset (offset + length v - offset) b part ≡ overlay b offset v
 unfolding overlay
 put_back b offset v part fits is =
-    let size = length-drop offset b in
-    let all = take_all (length b - offset) (drop offset b) (omega arith) in
-    rw (is, all, drop_of_length-le (drop offset b) {i = length b - offset} (omega arith), append-nil, take-length, drop-drop, ← append_assoc)
+    let size : offset + length v - offset ≡ length v = omega arith in
+    rw (is, size, drop-drop, ← append_assoc)
 
 -- no piece at all, and one piece after another
 pub nothing : (b : List ℕ) (offset : ℕ) → Written b offset [] b offset

@@ -7,6 +7,7 @@ pub fn put(out: &mut [u8], offset: usize, piece: &[u8]) -> usize
     requires { offset + length piece.now ≤ length out.old }
     ensures { Written out.old offset piece.now out.new result }
 {
-    bytes::copy(piece, &mut out[offset..]);
-    offset + piece.len()
+    let end = offset + piece.len();
+    out[offset..end].copy_from_slice(piece);
+    end
 }
