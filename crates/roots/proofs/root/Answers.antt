@@ -9,7 +9,7 @@ pub increment-v-requires : goal.increment-v-requires
 increment-v-requires c =
     let got = c.whole_root-u.ensures in
     let part = first_part c.args.k c.args.n c.args.d c.whole_root-u.result c.requires.0 c.requires.1 c.requires.3 got.0 got.1 got.2 in
-    (part.small, omega (arith, part), omega (arith, part), omega arith)
+    (omega (arith, part), omega (arith, part), omega (arith, part), omega arith)
 
 pub returns-then-left-eq0 : goal.returns-then-left-eq0
 returns-then-left-eq0 c =
