@@ -1,4 +1,6 @@
 // The direction in which heat flows between a pipe and the air, and what differs by it.
+#![tactic(auto)]
+
 ghost use Rattle.std.specs.Prelude.{◌≡◌, ◌≤◌};
 ghost use Rattle.heat_flow.specs.HeatFlow.{least_temperature, beyond as heat_flow_beyond, temperature_difference, bounded};
 
