@@ -1,4 +1,6 @@
 // What a goal requires, in nanometres: the paper's need.
+#![tactic(auto)]
+
 ghost use Rattle.std.specs.Prelude.{◌≡◌, ◌*◌, ◌≤◌, ◌<◌};
 ghost use Rattle.line.specs.Range.{LineInRange};
 ghost use Rattle.requirement.specs.declared.Goal.TheVariants.{Economy};
