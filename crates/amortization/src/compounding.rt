@@ -9,7 +9,7 @@ use fractions::quotient;
 // What is compounded.
 pub(crate) const PRINCIPAL: u64 = 1_000_000_000;
 
-#[derive(Drop)]
+#[derive(Clone, Copy)]
 pub(crate) enum Rounding {
     Down,
     Up,

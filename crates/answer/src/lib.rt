@@ -7,14 +7,14 @@ use line::Shape;
 use temperatures::Temperature;
 use verdict::Verdict;
 
-#[derive(Drop)]
+#[derive(Clone, Copy)]
 pub enum LossCheck {
     Judged(Verdict),
     NonePrinted,
 }
 
 // The thickness with its two checks, and the bound on the surface's temperature: an upper one on a hot line, a lower one on a cold one.
-#[derive(Drop)]
+#[derive(Clone, Copy)]
 pub struct Answer {
     pub shape: Shape,
     pub thickness: Thickness,

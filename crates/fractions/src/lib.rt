@@ -5,7 +5,7 @@ ghost use Rattle.fractions.specs.Rounding.{rounded};
 ghost use Rattle.fractions.specs.Rounding.{nearest as rounding_nearest};
 
 // Two whole numbers that enclose a number: lower is not above it, upper is not below it.
-#[derive(Drop)]
+#[derive(Clone, Copy)]
 pub struct Bounds {
     pub lower: u64,
     pub upper: u64,

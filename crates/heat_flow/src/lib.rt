@@ -1,11 +1,13 @@
 // The direction in which heat flows between a pipe and the air, and what differs by it.
+#![tactic(auto)]
+
 ghost use Rattle.std.specs.Prelude.{◌≡◌, ◌≤◌};
 ghost use Rattle.heat_flow.specs.HeatFlow.{least_temperature, beyond as heat_flow_beyond, temperature_difference, bounded};
 
 use temperatures::Temperature;
 
 // Outward from a pipe that is warmer than the air, inward into one that is colder.
-#[derive(Drop)]
+#[derive(Clone, Copy)]
 pub enum HeatFlow {
     Outward,
     Inward,

@@ -10,13 +10,13 @@ use crate::offsets::Layout;
 use big_endian::read_number;
 use refusals::Refusal;
 
-#[derive(Drop)]
+#[derive(Clone, Copy)]
 pub struct Sizes {
     pub capacity: u64,
     pub count: u64,
 }
 
-#[derive(Drop)]
+#[derive(Clone, Copy)]
 pub enum Examination {
     Damaged(Refusal),
     Sound(Sizes),

@@ -4,7 +4,7 @@ ghost use Rattle.lengths.specs.Ladder.{rungs, thickness_at};
 
 use crate::Thickness;
 
-#[derive(Drop)]
+#[derive(Clone, Copy)]
 pub struct Ladder;
 
 impl Ladder {

@@ -1,18 +1,20 @@
 // The insulated line, and its shape.
+#![tactic(auto)]
+
 ghost use Rattle.std.specs.Prelude.{◌≡◌, ◌*◌, ◌≤◌};
 ghost use Rattle.line.specs.Line.{shape_of, multiplier};
 ghost use Rattle.line.specs.Range.{LineInRange};
 
 use lengths::Diameter;
 
-#[derive(Drop)]
+#[derive(Clone, Copy)]
 pub enum Shape {
     Cylinder,
     Flat,
 }
 
 // D, L and α: the diameter, the insulation's conductivity in 0.0001 W/(m·K) and the surface coefficient in 0.01 W/(m²·K).
-#[derive(Drop)]
+#[derive(Clone, Copy)]
 pub struct Line {
     pub diameter: Diameter,
     pub conductivity: u64,

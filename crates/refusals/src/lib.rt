@@ -3,7 +3,7 @@ ghost use Rattle.std.specs.Prelude.{◌≡◌};
 ghost use Rattle.refusals.specs.Numbers.{number_of};
 ghost use Rattle.refusals.specs.Range.{outside as range_outside};
 
-#[derive(Drop)]
+#[derive(Clone, Copy)]
 pub enum Refusal {
     // Of a sheet: its length, an unknown goal or service, a field outside its range, a field that must be zero.
     SheetLength,
@@ -30,7 +30,7 @@ pub enum Refusal {
 }
 
 // What a call that leaves its bytes in lent arrays says.
-#[derive(Drop)]
+#[derive(Clone, Copy)]
 pub enum Completion {
     Refused(Refusal),
     Complete,

@@ -1,4 +1,6 @@
 // What a goal requires, in nanometres: the paper's need.
+#![tactic(auto)]
+
 ghost use Rattle.std.specs.Prelude.{◌≡◌, ◌*◌, ◌≤◌, ◌<◌};
 ghost use Rattle.line.specs.Range.{LineInRange};
 ghost use Rattle.requirement.specs.declared.Goal.TheVariants.{Economy};
@@ -10,7 +12,7 @@ use line::{Line, Shape};
 use roots::root;
 
 // f, the price of heat in 0.01 yuan/GJ; τ, the hours a year; P, the price of insulation in yuan/m³; S, the yearly share in 0.0001.
-#[derive(Drop)]
+#[derive(Clone, Copy)]
 pub struct EconomyTerms {
     pub heat: u64,
     pub hours: u64,
@@ -18,7 +20,7 @@ pub struct EconomyTerms {
     pub share: u64,
 }
 
-#[derive(Drop)]
+#[derive(Clone, Copy)]
 pub enum Goal {
     Economy(EconomyTerms),
     // A heat loss, in 0.1 W/m².

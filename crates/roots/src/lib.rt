@@ -1,4 +1,6 @@
 // Whole square roots of fractions, from below and above, where the number under the root needs up to 87 bits.
+#![tactic(auto)]
+
 ghost use Rattle.std.specs.Prelude.{◌≡◌, ◌+◌, ◌*◌, ◌^◌, ◌≤◌, ◌<◌};
 ghost use Rattle.fractions.specs.Fraction.{◌over◌};
 ghost use Rattle.roots.specs.Root.{root_bounds};

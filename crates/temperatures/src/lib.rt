@@ -2,7 +2,7 @@
 ghost use Rattle.std.specs.Prelude.{◌≡◌};
 ghost use Rattle.temperatures.specs.Temperature.{decoded, encoded};
 
-#[derive(Drop)]
+#[derive(Clone, Copy)]
 pub struct Temperature(pub u16);
 
 impl Temperature {

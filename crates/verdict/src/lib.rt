@@ -7,7 +7,7 @@ ghost use Rattle.verdict.specs.Verdict.{judged, not_insufficient, is_undecided};
 pub use choice::{Choice, search};
 use fractions::Bounds;
 
-#[derive(Drop)]
+#[derive(Clone, Copy)]
 pub enum Verdict {
     // It meets: under-have is at or above high need.
     Sufficient,
