@@ -5,7 +5,7 @@ use Rattle.temperatures.specs.Temperature.{zero_degrees}
 use Rattle.text.proofs.Pieces.{pieces}
 use Rattle.answer_text.proofs.words.put_degrees.Goals as goal
 
-pub returns-then-t-lt-ZERO-clause-written : goal.returns-then-t-lt-ZERO-clause-written
-returns-then-t-lt-ZERO-clause-written c =
+pub returns-then-below-clause-written : goal.returns-then-below-clause-written
+returns-then-below-clause-written c =
     let below : c.args.t.0 < zero_degrees = omega arith in
     rw lt-ltb (search pieces)
