@@ -1,4 +1,6 @@
 // An answer, and its eight bytes.
+#![tactic(auto)]
+
 ghost use Rattle.std.specs.Prelude.{◌≡◌, ◌/◌, ◌%◌, ◌^◌};
 ghost use Rattle.answer.specs.Answer.{shape_code, check_code, loss_code, encoded};
 

@@ -1,7 +1,6 @@
 -- The flat list holds the printed limits: one test of every row and service, which antt computes.
 -- Assumes nothing.
 use mathlib.Core.Path.{◌≡◌, refl}
-use mathlib.Core.List.{flat_map}
 use Prim.Native.Nat.{ℕ, ◌+◌, ◌-◌}
 use native.Mathlib.Nat.{sub-add_cancel}
 use native.Mathlib.Omega.{arith}
@@ -16,11 +15,9 @@ abbrev Held : ℕ → ℕ → Type 0
 Held n row = get_or flat_table (place row (n + 1)) 0 ≡ column (n + 1) (nth row)
 
 held : AllBelow 4 (λ n. AllBelow 13 (Held n))
-unfolding flat_map
 held = (omega arith, (omega arith, (omega arith, (omega arith, tt))))
 
 pub placement : Placement
-unfolding flat_map
 placement =
     record {
       size = refl;

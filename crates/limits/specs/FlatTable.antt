@@ -1,7 +1,6 @@
 -- The table of loss limits as one flat list. 02, N3.
 -- Assumes nothing.
-use Rattle.std.specs.Prelude.{ℕ, ◌+◌, ◌*◌, ◌%◌, ◌≤◌, ◌<◌, ◌≡◌, length, get_or}
-use mathlib.Core.List.{List, [], ◌∷◌, flat_map}
+use Rattle.std.specs.Prelude.{ℕ, ◌+◌, ◌*◌, ◌%◌, ◌≤◌, ◌<◌, ◌≡◌, List, [], ◌∷◌, flat_map, length, get_or}
 use Rattle.std.proofs.Math.Option.{some}
 use Rattle.limits.specs.Limits.{Row, table, row_at, column}
 

@@ -1,4 +1,6 @@
 // The limits of heat loss and of surface temperature.
+#![tactic(auto)]
+
 ghost use Rattle.std.specs.Prelude.{◌≡◌, ◌≤◌, ◌<◌, get_or};
 ghost use Rattle.temperatures.specs.Temperature.{tenths_celsius};
 ghost use Rattle.limits.specs.Limits.{interpolated, loss_limit, surface_limit};

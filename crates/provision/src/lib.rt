@@ -1,4 +1,6 @@
 // What a thickness provides, in nanometres: the paper's have.
+#![tactic(auto)]
+
 ghost use Rattle.std.specs.Prelude.{◌≡◌, ◌^◌, ◌≤◌};
 ghost use Rattle.lengths.specs.declared.units.Diameter.{Diameter};
 ghost use Rattle.lengths.specs.Units.{tenths};

@@ -1,4 +1,6 @@
 // Whether a thickness is enough: have compared with need.
+#![tactic(auto)]
+
 mod choice;
 
 ghost use Rattle.std.specs.Prelude.{◌≡◌};

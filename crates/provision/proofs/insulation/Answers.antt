@@ -1,5 +1,5 @@
 -- On a pipe the logarithm to it is what the provision keeps.
-use Rattle.std.proofs.Common.{◌≡◌, sym, ◌∙◌, arith}
+use Rattle.std.proofs.Common.{◌≡◌, sym}
 use Rattle.line.specs.declared.Shape.TheVariants.{Cylinder}
 use Rattle.line.specs.Line.{shape_of}
 use Rattle.line.proofs.Shapes.{cylinder_diameter}

@@ -1,7 +1,5 @@
 -- The film is small, so the two sums fit, and they are the sides of what the thickness provides.
 use Rattle.std.proofs.Common.{◌≡◌, ◌+◌, ◌^◌, ◌≤◌, arith}
-use Rattle.fractions.specs.declared.Bounds.{Bounds}
-use Rattle.line.specs.declared.Line.{Line}
 use Rattle.line.specs.Range.{LineInRange}
 use Rattle.provision.specs.declared.Provision.{Provision}
 use Rattle.provision.specs.Provided.{film_bounds, provided}
