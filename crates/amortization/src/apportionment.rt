@@ -10,7 +10,7 @@ use crate::compounding::{PRINCIPAL, Rounding, growth};
 use fractions::nearest;
 use refusals::{Refusal, outside};
 
-#[derive(Drop)]
+#[derive(Clone, Copy)]
 pub enum YearlyShare {
     Refused(Refusal),
     // In units of 0.0001.
