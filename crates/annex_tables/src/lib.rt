@@ -1,4 +1,6 @@
 // The annex: the running sums of the steps from 10.0 mm, at each whole millimetre to 1,600 mm.
+#![tactic(auto)]
+
 mod lower;
 mod upper;
 

@@ -9,7 +9,7 @@ use Rattle.answer.specs.declared.Answer.{Answer}
 use Rattle.answer.specs.declared.LossCheck.{LossCheck}
 use Rattle.answer.specs.declared.LossCheck.TheVariants.{Judged, NonePrinted}
 use Rattle.big_endian.specs.Bytes.{bytes_of}
-use Rattle.temperatures.specs.Temperature.{encoded as twosComplement}
+use Rattle.temperatures.specs.Temperature.{encoded as twos_complement}
 
 -- "Byte 1: 1 cylinder, 2 flat."
 abbrev pub shape_code : Shape → ℕ
@@ -32,4 +32,4 @@ loss_code NonePrinted = 3
 unfoldable pub encoded : Answer → List ℕ
 encoded a =
     0 ∷ shape_code a.shape ∷
-    (bytes_of 2 a.thickness.0 ++ (loss_code a.loss ∷ check_code a.surface ∷ bytes_of 2 (twosComplement a.bound)))
+    (bytes_of 2 a.thickness.0 ++ (loss_code a.loss ∷ check_code a.surface ∷ bytes_of 2 (twos_complement a.bound)))

@@ -1,4 +1,6 @@
 // An answer, and its eight bytes.
+#![tactic(auto)]
+
 ghost use Rattle.std.specs.Prelude.{◌≡◌, ◌/◌, ◌%◌, ◌^◌};
 ghost use Rattle.answer.specs.Answer.{shape_code, check_code, loss_code, encoded};
 
@@ -7,14 +9,14 @@ use line::Shape;
 use temperatures::Temperature;
 use verdict::Verdict;
 
-#[derive(Drop)]
+#[derive(Clone, Copy)]
 pub enum LossCheck {
     Judged(Verdict),
     NonePrinted,
 }
 
 // The thickness with its two checks, and the bound on the surface's temperature: an upper one on a hot line, a lower one on a cold one.
-#[derive(Drop)]
+#[derive(Clone, Copy)]
 pub struct Answer {
     pub shape: Shape,
     pub thickness: Thickness,

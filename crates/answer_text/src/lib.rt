@@ -1,4 +1,6 @@
 // The text of an answer, and of a refusal.
+#![tactic(auto)]
+
 mod response;
 mod words;
 

@@ -54,7 +54,8 @@ pub(crate) fn put_degrees(out: &mut [u8], offset: usize, t: Temperature) -> usiz
     ensures written { Written out.old offset (degrees t) out.new result }
     ensures upper_bound { result ≤ offset + 42 }
 {
-    if t.0 < Temperature::ZERO {
+    let below = t.0 < Temperature::ZERO;
+    if below {
         let digits = put(out, offset, b"-");
         return put_tenths(out, digits, (Temperature::ZERO - t.0) as u64);
     }

@@ -1,4 +1,6 @@
 // Numbers in bytes, big-endian.
+#![tactic(auto)]
+
 ghost use Rattle.std.specs.Prelude.{◌≡◌, ◌+◌, ◌^◌, ◌≤◌, ◌<◌, length};
 ghost use Rattle.overlay.specs.Overlay.{overlay};
 ghost use Rattle.big_endian.specs.Bytes.{big_endian, bytes_of};

@@ -17,7 +17,7 @@ use Rattle.verdict.specs.Verdict.{not_insufficient, is_undecided}
 use Rattle.verdict.proofs.FirstRung.{first_within, misses_before, first_not_insufficient_lem, first_is, first_none}
 use Rattle.big_endian.proofs.Numerals.{number_bytes}
 use Rattle.big_endian.specs.Bytes.{big_endian, bytes_of}
-use Rattle.temperatures.specs.Temperature.{decoded as signed, encoded as twosComplement}
+use Rattle.temperatures.specs.Temperature.{decoded as signed, encoded as twos_complement}
 use Rattle.temperatures.proofs.TwosComplement.{turned_back}
 use Rattle.heat_flow.proofs.Differences.{bound_fits}
 use Rattle.answer.specs.declared.Answer.{Answer}
@@ -67,7 +67,7 @@ module _ (a : Answer) where
 
   encoded_bound : a.bound.0 < 65_536 → signed (big_endian (encoded a) 6 2) ≡ a.bound
   unfolding big_endian encoded bytes_of
-  encoded_bound lt = rw (number_bytes 2 (twosComplement a.bound) (omega arith), turned_back a.bound.0 lt)
+  encoded_bound lt = rw (number_bytes 2 (twos_complement a.bound) (omega arith), turned_back a.bound.0 lt)
 
 pub answer_thickness : (s : Sheet) → big_endian (encoded (answer_of s (chosen s))) 2 2 ≡ (thickness_at (chosen s)).0
 unfolding answer_of

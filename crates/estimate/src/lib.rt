@@ -1,4 +1,6 @@
 // Where the search of the ladder starts: a rough estimate of the rung. No answer rests on it.
+#![tactic(auto)]
+
 ghost use Rattle.std.specs.Prelude.{◌≤◌, ◌<◌};
 ghost use Rattle.lengths.specs.Ladder.{rungs};
 ghost use Rattle.line.specs.Range.{LineInRange};

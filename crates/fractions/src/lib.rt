@@ -1,4 +1,6 @@
 // Quotients of whole numbers, rounded down, rounded up and to the nearest.
+#![tactic(auto)]
+
 ghost use Rattle.std.specs.Prelude.{◌≡◌, ◌+◌, ◌*◌, ◌^◌, ◌<◌};
 ghost use Rattle.fractions.specs.Fraction.{◌over◌};
 ghost use Rattle.fractions.specs.Rounding.{rounded};

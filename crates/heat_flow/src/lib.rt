@@ -7,7 +7,7 @@ ghost use Rattle.heat_flow.specs.HeatFlow.{least_temperature, beyond as heat_flo
 use temperatures::Temperature;
 
 // Outward from a pipe that is warmer than the air, inward into one that is colder.
-#[derive(Drop)]
+#[derive(Clone, Copy)]
 pub enum HeatFlow {
     Outward,
     Inward,

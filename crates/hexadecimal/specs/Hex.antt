@@ -1,8 +1,7 @@
 -- Bytes written in hexadecimal, two digits a byte.
 -- Assumes nothing.
-use Rattle.std.specs.Prelude.{ℕ, ◌+◌, ◌*◌, ◌%◌, ◌<◌, cond, List, [], ◌∷◌, ◌++◌, ltb, leb, length, take, get_or}
-use Rattle.std.proofs.Math.Option.{Option, none, some}
-use Rattle.bytes.specs.Bytes.{index_of}
+use Rattle.std.specs.Prelude.{ℕ, ◌+◌, ◌*◌, ◌%◌, ◌<◌, cond, List, [], ◌∷◌, ◌++◌, Option, None, Some, ltb, leb, eqb, length, take, get_or}
+use Rattle.std.specs.List.{position_or_len}
 use Rattle.text.specs.Text.{ascii}
 use Rattle.hexadecimal.specs.declared.Parsed.{Parsed}
 use Rattle.hexadecimal.specs.declared.Parsed.TheVariants.{Value, Nothing}
@@ -11,6 +10,10 @@ use Rattle.hexadecimal.specs.declared.Decoded.{Decoded}
 -- the sixteen digits in lower case, and again in upper case
 abbrev pub digits : List ℕ
 digits = ascii "0123456789abcdef0123456789ABCDEF"
+
+-- the index of the first b in a list, the list's length where there is none
+abbrev pub index_of : ℕ → List ℕ → ℕ
+index_of b xs = position_or_len (λ x. eqb x b) xs
 
 -- the value of a digit is its index among the sixteen of its case; any other byte has none
 unfoldable pub digit_of : ℕ → Parsed
@@ -25,21 +28,21 @@ byte_of (Value high) (Value low) = Value (16 * high + low)
 -- what comes of a value; none where there is no value
 abbrev pub and_then : Parsed → (ℕ → Option (List ℕ)) → Option (List ℕ)
 and_then (Value v) next = next v
-and_then Nothing next = none
+and_then Nothing next = None
 
 -- the bytes so far, and then those that the pairs of digits of a text write; none where one of a pair is no digit, or a digit is left over
 unfoldable pub pairs : List ℕ → List ℕ → Option (List ℕ)
-pairs bytes [] = some bytes
-pairs bytes (high ∷ []) = none
+pairs bytes [] = Some bytes
+pairs bytes (high ∷ []) = None
 pairs bytes (high ∷ low ∷ rest) = and_then (byte_of (digit_of high) (digit_of low)) (λ b. pairs (bytes ++ b ∷ []) rest)
 
 -- the bytes that a text writes, 64 at the most
 unfoldable pub bytes_of : List ℕ → Option (List ℕ)
-bytes_of text = cond (leb (length text) 128) (pairs [] text) none
+bytes_of text = cond (leb (length text) 128) (pairs [] text) None
 
 -- what the code returns: the bytes at the start of its room, or none
 abbrev pub decoded : Decoded → Option (List ℕ)
-decoded d = cond d.valid (some (take d.length d.room)) none
+decoded d = cond d.valid (Some (take d.length d.room)) None
 
 -- a value, if there is one, lies below n
 abbrev pub Below : ℕ → Parsed → Type 0

@@ -1,11 +1,11 @@
 // Bytes written in hexadecimal.
-ghost use Rattle.std.specs.Prelude.{◌≡◌, ◌+◌, ◌≤◌, ◌<◌, length};
+#![tactic(auto)]
+
+ghost use Rattle.std.specs.Prelude.{◌≡◌, ◌+◌, ◌≤◌, ◌<◌, length, position, eqb};
 ghost use Rattle.hexadecimal.specs.Hex.{digit_of, byte_of, byte_at, bytes_of, decoded, Below};
 
-use bytes::scan::find;
-
 // The value of a digit or of two, or nothing where one is no digit.
-#[derive(Drop)]
+#[derive(Clone, Copy)]
 pub enum Parsed {
     Value(u8),
     Nothing,
@@ -20,18 +20,26 @@ pub struct Decoded {
 }
 
 // The value of a digit in lower or upper case: its index among the sixteen of its case.
+#[tactic(auto, unfolding(crate::specs::Hex::digit_of))]
 fn digit(b: u8) -> Parsed
     ensures value { result ≡ digit_of b }
     ensures below { Below 16 result }
 {
-    let index = find(b"0123456789abcdef0123456789ABCDEF", 0, 32, b);
-    if index < 32 {
-        return Parsed::Value((index % 16) as u8);
+    match find(b"0123456789abcdef0123456789ABCDEF", b) {
+        Some(index) => Parsed::Value((index % 16) as u8),
+        None => Parsed::Nothing,
     }
-    Parsed::Nothing
+}
+
+// The index of the first b among digits.
+fn find(digits: &[u8], b: u8) -> Option<usize>
+    ensures { result ≡ position (λ digit. eqb digit b) digits.now }
+{
+    digits.iter().position(|d| *d == b)
 }
 
 // The byte that two digits write.
+#[tactic(auto, unfolding(crate::specs::Hex::byte_of))]
 fn byte(high: Parsed, low: Parsed) -> Parsed
     requires { Below 16 high × Below 16 low }
     ensures { result ≡ byte_of high low }

@@ -10,13 +10,13 @@ use crate::offsets::Layout;
 use big_endian::read_number;
 use refusals::Refusal;
 
-#[derive(Drop)]
+#[derive(Clone, Copy)]
 pub struct Sizes {
     pub capacity: u64,
     pub count: u64,
 }
 
-#[derive(Drop)]
+#[derive(Clone, Copy)]
 pub enum Examination {
     Damaged(Refusal),
     Sound(Sizes),
@@ -24,6 +24,7 @@ pub enum Examination {
 
 impl Layout {
     // The sizes of a book, or what is wrong with them.
+    #[tactic(auto, unfolding(refusals::specs::Response::respond))]
     pub fn examine(self, book: &[u8]) -> Examination
         requires { Usable self }
         ensures { examined result ≡ respond (book_cases self book.now) (sizes_capacity self book.now ∷ sizes_count self book.now ∷ []) }

@@ -1,4 +1,6 @@
 // Where a book keeps what, and whether its sizes are sound.
+#![tactic(auto)]
+
 mod examination;
 mod offsets;
 

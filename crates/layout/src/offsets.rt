@@ -7,7 +7,7 @@ ghost use Rattle.layout.specs.Usable.{Usable};
 use refusals::outside;
 
 // The bytes before the sizes, the bytes of a size, the largest capacity, and the bytes of a sheet.
-#[derive(Drop)]
+#[derive(Clone, Copy)]
 pub struct Layout {
     pub lead: usize,
     pub width: usize,

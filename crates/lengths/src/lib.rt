@@ -1,4 +1,6 @@
 // Diameters and thicknesses, and the ladder of thicknesses.
+#![tactic(auto)]
+
 mod ladder;
 mod units;
 

@@ -1,4 +1,6 @@
 // The bounds of the logarithm between two diameters.
+#![tactic(auto)]
+
 ghost use Rattle.std.specs.Prelude.{◌≡◌, ◌+◌, ◌-◌, ◌^◌, ◌≤◌, ◌<◌};
 ghost use Rattle.lengths.specs.Units.{tenths};
 ghost use Rattle.quadrature.specs.Figures.{log_bounds};

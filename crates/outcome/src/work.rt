@@ -21,7 +21,7 @@ use requirement::required;
 use sheet::Sheet;
 use verdict::{Choice, judge, search};
 
-#[derive(Drop)]
+#[derive(Clone, Copy)]
 pub enum Outcome {
     Refused(Refusal),
     Answered(Answer),

@@ -5,9 +5,9 @@ use mathlib.Core.List.{List, [], ◌∷◌, ◌++◌, append_assoc, append-nil}
 use Prim.Native.Nat.{ℕ, zero, suc, ◌+◌, ◌-◌, ◌≤◌}
 use native.Mathlib.Nat.{add-zero, zero-add, suc-add}
 use native.Mathlib.Omega.{arith}
-use borrow.Rule.Slice.PartMut.{mid_of, put_mid}
-use lib.ListN.{length, take, drop, set, length-append, length-drop, take-append-drop, drop_of_length-le}
-use lib.Seq.{take_all, take-length, take-append_seam, drop-append-add, drop-drop}
+use borrow.Rule.Slice.PartMut.{put_mid}
+use lib.ListN.{length, drop, set, length-append, take-append-drop, drop_of_length-le}
+use lib.Seq.{take_all, take-append_seam, drop-append-add, drop-drop}
 use Rattle.overlay.specs.Overlay.{overlay, Written}
 
 -- one piece after another is the two as one piece

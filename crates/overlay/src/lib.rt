@@ -1,4 +1,6 @@
 // Bytes put over lent bytes.
+#![tactic(auto)]
+
 ghost use Rattle.std.specs.Prelude.{◌+◌, ◌≤◌, length};
 ghost use Rattle.overlay.specs.Overlay.{Written};
 

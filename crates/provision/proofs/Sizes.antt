@@ -1,13 +1,13 @@
 -- The figures fit 64 bits.
 -- Assumes nothing.
 use mathlib.Core.Path.{◌≡◌, refl}
-use Prim.Native.Nat.{ℕ, ◌+◌, ◌-◌, ◌*◌, ◌/◌, ◌^◌, ◌≤◌, ◌<◌}
-use native.Mathlib.Nat.{mul-le-mul, mul-pos, div-le_self, div-le_of_le-mul, le-div_iff_mul-le}
+use Prim.Native.Nat.{ℕ, ◌+◌, ◌-◌, ◌*◌, ◌/◌, ◌^◌, ◌≤◌}
+use native.Mathlib.Nat.{mul-le-mul, div-le_self, div-le_of_le-mul, le-div_iff_mul-le}
 use native.Mathlib.Omega.{arith}
 use Rattle.quadrature.specs.Sums.{total}
 use Rattle.lengths.specs.declared.units.Diameter.{Diameter}
 use Rattle.lengths.specs.declared.units.Thickness.{Thickness}
-use Rattle.lengths.specs.Units.{tenths, outer_diameter}
+use Rattle.lengths.specs.Units.{outer_diameter}
 use Rattle.quadrature.specs.Figures.{lower_step, lower_log}
 use Rattle.logarithm.proofs.Steps.{Small, log_small, lower_small}
 use Rattle.line.specs.declared.Line.{Line}

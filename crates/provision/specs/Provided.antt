@@ -13,11 +13,11 @@ use Rattle.line.specs.declared.Shape.{Shape}
 use Rattle.line.specs.declared.Shape.TheVariants.{Cylinder, Flat}
 use Rattle.line.specs.Line.{shape_of, multiplier}
 
--- Have is the sum of two quotients. The insulation's, of thickness k on diameter D: "cylinder: E × log / 10⁷", "flat: k × 10⁶". scaledLog
+-- Have is the sum of two quotients. The insulation's, of thickness k on diameter D: "cylinder: E × log / 10⁷", "flat: k × 10⁶". scaled_log
 -- gives log / 10⁷ between two diameters, as a fraction.
 unfoldable pub insulation : (Diameter → Diameter → Fraction) → Shape → Diameter → Thickness → Fraction
-insulation scaledLog Cylinder D k = let E = outer_diameter D k in (E.0 * (scaledLog D E).num) over (scaledLog D E).den
-insulation scaledLog Flat D k = (k.0 * 10 ^ 6) over 1
+insulation scaled_log Cylinder D k = let E = outer_diameter D k in (E.0 * (scaled_log D E).num) over (scaled_log D E).den
+insulation scaled_log Flat D k = (k.0 * 10 ^ 6) over 1
 
 -- The surface film's: "plus 2L × 10⁷ / α", "plus L × 10⁷ / α".
 unfoldable pub film : Line → Fraction

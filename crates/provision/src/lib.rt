@@ -1,4 +1,6 @@
 // What a thickness provides, in nanometres: the paper's have.
+#![tactic(auto)]
+
 ghost use Rattle.std.specs.Prelude.{◌≡◌, ◌^◌, ◌≤◌};
 ghost use Rattle.lengths.specs.declared.units.Diameter.{Diameter};
 ghost use Rattle.lengths.specs.Units.{tenths};
@@ -15,7 +17,7 @@ use line::{Line, Shape};
 use logarithm::{log_beyond, log_from_10mm};
 
 // A line with the figures that are the same at every thickness: its logarithm from 10.0 mm, and its surface film.
-#[derive(Drop)]
+#[derive(Clone, Copy)]
 pub struct Provision {
     pub line: Line,
     pub inner: Bounds,

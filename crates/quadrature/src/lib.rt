@@ -1,4 +1,6 @@
 // The area under 1/x between two diameters, which is the logarithm of their ratio: the figures of one step of a tenth of a millimetre.
+#![tactic(auto)]
+
 ghost use Rattle.std.specs.Prelude.{◌≡◌, ◌≤◌, ◌<◌};
 ghost use Rattle.quadrature.specs.Figures.{step_bounds};
 

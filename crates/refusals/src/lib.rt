@@ -1,4 +1,6 @@
 // Why a call sends back what it was given.
+#![tactic(auto)]
+
 ghost use Rattle.std.specs.Prelude.{◌≡◌};
 ghost use Rattle.refusals.specs.Numbers.{number_of};
 ghost use Rattle.refusals.specs.Range.{outside as range_outside};

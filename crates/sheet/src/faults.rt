@@ -9,7 +9,7 @@ use refusals::outside;
 use temperatures::Temperature;
 
 // The offset of a faulty field, or that there is none.
-#[derive(Drop)]
+#[derive(Clone, Copy)]
 pub enum Fault {
     None,
     At(u64),

@@ -10,7 +10,7 @@ use requirement::EconomyTerms;
 use temperatures::Temperature;
 
 // The kind of goal by its code: 1 and 5 economy, 2 loss, and every other surface.
-#[derive(Drop)]
+#[derive(Clone, Copy)]
 pub enum GoalCode {
     ForEconomy,
     ForLoss,
@@ -65,7 +65,7 @@ fn flow_of(code: u64) -> HeatFlow
 
 // The goal's code as it is written and as it is read, the direction of the heat's flow, the service, the insulated line, the temperatures t
 // of the pipe and ta of the air, the economy terms, and the aim as it is written.
-#[derive(Drop)]
+#[derive(Clone, Copy)]
 pub struct Sheet {
     pub code: u64,
     pub goal: GoalCode,

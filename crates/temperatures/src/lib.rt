@@ -1,4 +1,6 @@
 // Temperatures in tenths of a degree, counted from −3,276.8 °C, the least that 16 bits hold in two's complement.
+#![tactic(auto)]
+
 ghost use Rattle.std.specs.Prelude.{◌≡◌};
 ghost use Rattle.temperatures.specs.Temperature.{decoded, encoded};
 

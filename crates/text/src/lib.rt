@@ -1,4 +1,6 @@
 // Text in lent bytes: pieces put one after the other.
+#![tactic(auto)]
+
 ghost use Rattle.std.specs.Prelude.{◌+◌, ◌≤◌, length};
 ghost use Rattle.overlay.specs.Overlay.{Written};
 ghost use Rattle.text.specs.Text.{decimal, decimal_and};

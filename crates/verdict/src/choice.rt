@@ -12,7 +12,7 @@ use lengths::Ladder;
 use provision::Provision;
 
 // What a search of the ladder finds.
-#[derive(Drop)]
+#[derive(Clone, Copy)]
 pub enum Choice {
     // The index of the first rung that does not miss, and its have.
     Rung(u64, Bounds),

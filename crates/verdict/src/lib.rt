@@ -1,4 +1,6 @@
 // Whether a thickness is enough: have compared with need.
+#![tactic(auto)]
+
 mod choice;
 
 ghost use Rattle.std.specs.Prelude.{◌≡◌};
@@ -7,7 +9,7 @@ ghost use Rattle.verdict.specs.Verdict.{judged, not_insufficient, is_undecided};
 pub use choice::{Choice, search};
 use fractions::Bounds;
 
-#[derive(Drop)]
+#[derive(Clone, Copy)]
 pub enum Verdict {
     // It meets: under-have is at or above high need.
     Sufficient,

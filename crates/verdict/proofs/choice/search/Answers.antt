@@ -1,0 +1,36 @@
+-- A rung that does not miss bounds the first one from above; one that misses, from below, since what is provided grows.
+use Rattle.std.proofs.Common.{◌≡◌, Bool, ℕ, sym, ap, ◌∙◌, arith}
+use Rattle.fractions.specs.declared.Bounds.{Bounds}
+use Rattle.lengths.specs.declared.units.Thickness.{Thickness}
+use Rattle.lengths.specs.Ladder.{thickness_at}
+use Rattle.line.specs.declared.Line.{Line}
+use Rattle.provision.specs.Provided.{provided}
+use Rattle.verdict.specs.declared.Verdict.{Verdict}
+use Rattle.verdict.specs.Verdict.{judged, verdict_of, not_insufficient}
+use Rattle.verdict.proofs.FirstRung.{insufficient_unless, first_within, first_above, first_not_above}
+use Rattle.verdict.proofs.Growth.{insufficient_below}
+use Rattle.verdict.proofs.choice.search.Goals as goal
+
+-- what was tried is the rung's have, so the test is of the rung's verdict
+tested : (l : Line) (q tried : Bounds) (r : ℕ) (k : Thickness) (v : Verdict) (b : Bool) → k ≡ thickness_at r → tried ≡ provided l k → v ≡ judged tried q → b ≡ not_insufficient v →
+    not_insufficient (verdict_of l q r) ≡ b
+tested l q tried r k v b at is told same = sym (same ∙ ap not_insufficient (told ∙ ap (λ (p : Bounds). judged p q) (is ∙ ap (provided l) at)))
+
+pub loop-low-init : goal.loop-low-init
+loop-low-init c =
+    let count = c.count-high.ensures in
+    (c.likely_rung-likely.ensures, omega arith, omega (arith, first_within (verdict_of c.args.prepared.line c.args.required)), omega arith, λ lt. absurd (omega arith))
+
+pub loop-low-preserved-then-not_insufficient : goal.loop-low-preserved-then-not_insufficient
+loop-low-preserved-then-not_insufficient c =
+    let inv = c.loop-low.invariant in
+    let meets = tested _ _ _ _ _ _ _ c.thickness.ensures c.at-tried.ensures c.judge.ensures c.if-not_insufficient.ensures in
+    (inv.0, omega arith, first_not_above _ c.next_trial-r.result meets, omega arith, λ lt. c.at-tried.ensures ∙ ap (provided c.args.prepared.line) c.thickness.ensures)
+
+pub loop-low-preserved : goal.loop-low-preserved
+loop-low-preserved c =
+    let inv = c.loop-low.invariant in
+    let misses = insufficient_unless _ (tested _ _ _ _ _ _ _ c.thickness.ensures c.at-tried.ensures c.judge.ensures c.if-not_insufficient.ensures) in
+    let verdicts = verdict_of c.args.prepared.line c.args.required in
+    let above = first_above verdicts (λ i j le. insufficient_below c.args.prepared.line c.args.required le) c.next_trial-r.result (omega arith) misses in
+    (inv.0, omega arith, inv.2, inv.3, inv.4)
