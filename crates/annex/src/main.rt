@@ -1,4 +1,6 @@
 // Prints the annex for the printer.
+#![tactic(auto)]
+
 ghost use Rattle.std.specs.Prelude.{◌+◌, ◌*◌, ◌≤◌, length};
 ghost use Rattle.annex_tables.specs.Annex.{entries};
 ghost use Rattle.overlay.specs.Overlay.{Written};
@@ -6,7 +8,6 @@ ghost use Rattle.text.specs.Text.{concatenated};
 ghost use Rattle.annex.specs.Page.{line, entry_line, limits_line, page};
 
 use fractions::Bounds;
-use libc::{STDERR_FILENO, STDOUT_FILENO};
 use overlay::put;
 use text::put_decimal_and;
 
@@ -28,10 +29,8 @@ fn put_figures(out: &mut [u8], offset: usize) -> usize
     ensures upper_bound { result ≤ offset + 63 * entries }
 {
     let mut end = offset;
-    let mut k = 0;
-    while k < annex_tables::ENTRIES {
+    for k in 0..annex_tables::ENTRIES {
         end = put_line(out, end, 10 + k as u64, annex_tables::entry(k));
-        k += 1;
     }
     end
 }
@@ -44,10 +43,8 @@ fn put_limits(out: &mut [u8], offset: usize) -> usize
 {
     let table = limits::flat_table();
     let mut end = offset;
-    let mut k = 0;
-    while k < 25 {
+    for k in 0..25 {
         end = put_decimal_and(out, end, table[k], b' ');
-        k += 1;
     }
     put_decimal_and(out, end, table[25], b'\n')
 }
@@ -64,10 +61,10 @@ fn put_page(out: &mut [u8]) -> usize
     put_limits(out, limits)
 }
 
-fn main() {
+fn main(rt: HostRuntime) {
     let mut out = [0u8; 131072];
     let n = put_page(&mut out);
-    if !io::write_all(STDOUT_FILENO, &out[0..n]) {
-        io::write_all(STDERR_FILENO, b"annex: cannot write\n");
+    if rt.write_all(&out[0..n]).is_err() {
+        let _ = rt.eprint("annex: cannot write\n");
     }
 }
