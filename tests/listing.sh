@@ -3,7 +3,8 @@
 # reads and writes that fail.
 set -eu
 cd "$(dirname "$0")/.." || exit 1
-listing=target/bin/listing
+listing=crates/listing/out/listing
+[ -x $listing ] || { echo "listing: there is no $listing: rt ci and, in crates/listing, rt run build it"; exit 1; }
 made=$(mktemp -d) || exit 1
 trap 'rm -rf "$made"' EXIT
 

@@ -4,7 +4,8 @@
 # streams.
 set -eu
 cd "$(dirname "$0")/.." || exit 1
-vectors=target/bin/vectors
+vectors=crates/vectors/out/vectors
+[ -x $vectors ] || { echo "vectors: there is no $vectors: rt ci and, in crates/vectors, rt run build it"; exit 1; }
 made=$(mktemp -d) || exit 1
 trap 'rm -rf "$made"' EXIT
 

@@ -5,7 +5,7 @@ what port.py wrote; --list prints the names."""
 import collections, glob, re, sys
 
 WORD = r"[^\s(){}\[\]:;,.λ⟨⟩`\"]+"
-SIGNATURE = re.compile(rf"^\s*(?:(?:abbrev|unfoldable|pub|data|record|ruleset)\s+)*({WORD})\s*:\s(.*)$")
+SIGNATURE = re.compile(rf"^\s*(?:(?:abbrev|unfoldable|pub|data|record|ruleset)\s+)*({WORD})\s*:(?:\s(.*))?$")
 MADE = re.compile(r"^(tie\.|goal\.|{M : Type 1} → statement|statement)")
 
 
@@ -31,7 +31,7 @@ for path in antt:
         m = SIGNATURE.match(comment_free(line.rstrip("\n")))
         if not m:
             continue
-        name, rest = m.groups()
+        name, rest = m.group(1), m.group(2) or ""
         if MADE.match(rest) and not name.endswith("-spec"):
             made_in[path].add(name)
         elif wants(name):

@@ -24,7 +24,7 @@ fn main() {
     println!("cargo::rerun-if-changed={}", archive.display());
     if !archive.is_file() {
         println!(
-            "cargo::error={} is missing: `rt staticlib kennelday` builds it, \
+            "cargo::error={} is missing: `sh rust/library.sh` builds it, \
              and {VARIABLE} can name another directory by its full path",
             archive.display()
         );

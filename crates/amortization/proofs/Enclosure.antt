@@ -20,7 +20,7 @@ product i a b c d = omega arith
 
 module _ (i : ℕ) (g h : Fraction) (hg : g.den < g.num) (hh : h.den < h.num) where
   cleared : (share i h).num * (share i g).den + i * (h.num * g.den) ≡ (share i g).num * (share i h).den + i * (g.num * h.den)
-  cleared = rw (add-sub_of_le (le_of_lt hg), add-sub_of_le (le_of_lt hh)) at (product i (g.num - g.den) (h.num - h.den) g.den h.den)
+  cleared = omega (arith, rw (add-sub_of_le (le_of_lt hg), add-sub_of_le (le_of_lt hh)) at (product i (g.num - g.den) (h.num - h.den) g.den h.den))
 
   pub share_falls : 0 < i → g ≺ h → share i h ≺ share i g
   share_falls some less = omega (arith, cleared, mul-lt-mul_of_pos_left less some)

@@ -1,8 +1,6 @@
 // Growth by compound interest.
 ghost use Rattle.std.specs.Prelude.{◌≡◌, ◌+◌, ◌*◌, ◌^◌, ◌≤◌, ◌<◌};
-ghost use Rattle.amortization.specs.Growth.{growth as growth_growth};
-ghost use Rattle.amortization.specs.Growth.{year as growth_year};
-ghost use Rattle.amortization.specs.Growth.{rounded_to};
+ghost use Rattle.amortization.specs.Growth.{growth as growth_growth, year as growth_year, rounded_to};
 
 use fractions::quotient;
 
@@ -31,7 +29,7 @@ pub(crate) fn growth(rate: u64, left: u64, rounding: Rounding) -> u64
 // A growth after one year more.
 fn year(growth: u64, rate: u64, rounding: Rounding) -> u64
     requires rate_bound { rate ≤ 3_000 }
-    requires rate_bound_2 { growth * (10_000 + rate) < 2 ^ 64 }
+    requires product_bound { growth * (10_000 + rate) < 2 ^ 64 }
     ensures { result ≡ growth_year (rounded_to rounding) rate growth }
 {
     let grown = quotient(growth * (10_000 + rate), 10_000);

@@ -78,6 +78,7 @@ unfolding respond growth
 three_refused i n (Memᴰ.head e) = rw (ap (λ (p : ℕ × ℕ). p.0) e, ap (λ (p : ℕ × ℕ). p.1) e)
 three_refused i n (Memᴰ.tail (Memᴰ.head e)) = rw (ap (λ (p : ℕ × ℕ). p.0) e, ap (λ (p : ℕ × ℕ). p.1) e)
 three_refused i n (Memᴰ.tail (Memᴰ.tail (Memᴰ.head e))) = rw (ap (λ (p : ℕ × ℕ). p.0) e, ap (λ (p : ℕ × ℕ). p.1) e)
+three_refused i n (Memᴰ.tail (Memᴰ.tail (Memᴰ.tail more))) = elim more [ ]
 
 -- A pair that is refused with 42 is in range, and its ends round differently: it is one of the three.
 listed_one : (i n : ℕ) (ps : List (ℕ × ℕ)) → listed i n ps ≡ true → Memᴰ (i, n) ps

@@ -28,7 +28,7 @@ module _ {l : Layout} {b : List ℕ} {sizes : Sizes} (is : SoundBook l b sizes) 
   unfolding respond
   filing_room sheet not = rw (ne_eqb _ _ not) at (filing_sound sheet)
 
-  pub reading-sound :
+  pub reading_sound :
       (e : ℕ) {sheet answer : List ℕ} → sheet ≡ stored_sheet l b e → answer ≡ stored_answer l b e →
       reading l b e ≡ respond (case 33 (leb sizes.count e) ∷ case 35 (not (gives (response_to sheet) answer)) ∷ []) (sheet ++ answer)
-  reading-sound e sheet_is answer_is = rw (is.count_is, sheet_is, answer_is) (later (book_cases l b) _ _ (unrefused l b is))
+  reading_sound e sheet_is answer_is = rw (is.count_is, sheet_is, answer_is) (later (book_cases l b) _ _ (unrefused l b is))

@@ -9,8 +9,9 @@ use layout::Layout;
 use refusals::{Completion, Refusal};
 
 // Makes the lent bytes a new book of this capacity.
+#[tactic(auto, unfolding(refusals::specs::Response::respond, crate::specs::Book::new_book))]
 pub fn new_book(book: &mut [u8], capacity: u64) -> Completion
-    ensures result_value { response_with result [] ≡ making standard book.old capacity }
+    ensures response { response_with result [] ≡ making standard book.old capacity }
     ensures book_after { book.new ≡ made standard book.old capacity }
 {
     let layout = Layout::standard();

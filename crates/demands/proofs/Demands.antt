@@ -25,7 +25,7 @@ use Rattle.book.specs.Book.{new_book, with_entry}
 use Rattle.book.specs.Refusals.{making_cases, filing_cases, reading_cases}
 use Rattle.demands.specs.Demands.{Demand1, Demand2, Demand3, SurfaceBound, Denominators}
 use Rattle.demands.proofs.Sheets.{answered, answer_thickness, sheet_demand_2}
-use Rattle.demands.proofs.Surface.{figure_den, dens, surface_dens, both-within}
+use Rattle.demands.proofs.Surface.{figure_den, dens, surface_dens, both_within}
 use Rattle.demands.proofs.ReadingBack.{reads_back, takes_sheets}
 
 pub demand_1 : Demand1
@@ -65,7 +65,7 @@ denominators sheet bytes h m hm r =
 pub surface_bound_lem : SurfaceBound
 surface_bound_lem sheet bytes h m hm =
     let got = (sheet_demand_2 sheet).answered bytes h in
-    rw (got.thickness, got.bound) (both-within (decoded sheet) (answered sheet bytes h).0.admitted (thickness_at got.rung) (omega arith) m hm)
+    rw (got.thickness, got.bound) (both_within (decoded sheet) (answered sheet bytes h).0.admitted (thickness_at got.rung) (omega arith) m hm)
 
 pub demand_3 : Demand3
 demand_3 sheet bytes h m hm r lt =

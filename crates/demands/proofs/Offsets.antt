@@ -36,20 +36,20 @@ module _ (b : List ℕ) where
   all = (refl, (refl, (refl, (refl, (refl, (refl, (refl, own (decoded b).goal)))))))
 
   -- the offsets of the fields that only some goals use: of a goal that is economy, loss or neither
-  own-order :
+  own_order :
       (s : Sheet) (one two : Bool) →
       let g = cond one ForEconomy (cond two ForLoss ForSurface) in
       map (λ (f : Field). f.offset) (economy_fields (uses_economy g) s ++ aim_fields (uses_aim g) s) ≡ (14 ∷ 16 ∷ 18 ∷ 20 ∷ cond one (22 ∷ []) [])
-  own-order s true two = refl
-  own-order s false true = refl
-  own-order s false false = refl
+  own_order s true two = refl
+  own_order s false true = refl
+  own_order s false false = refl
 
   in_order :
       map (λ (f : Field). f.offset) (fields (decoded b)) ≡
       (0 ∷ 1 ∷ 4 ∷ 6 ∷ 8 ∷ 10 ∷ 12 ∷ 14 ∷ 16 ∷ 18 ∷ 20 ∷ cond (eqb (get_or b 0 0) 1 || eqb (get_or b 0 0) 5) (22 ∷ []) [])
   unfolding decoded
   in_order =
-      ap (λ (rest : List ℕ). 0 ∷ 1 ∷ 4 ∷ 6 ∷ 8 ∷ 10 ∷ 12 ∷ rest) (own-order (decoded b) (eqb (get_or b 0 0) 1 || eqb (get_or b 0 0) 5) (eqb (get_or b 0 0) 2))
+      ap (λ (rest : List ℕ). 0 ∷ 1 ∷ 4 ∷ 6 ∷ 8 ∷ 10 ∷ 12 ∷ rest) (own_order (decoded b) (eqb (get_or b 0 0) 1 || eqb (get_or b 0 0) 5) (eqb (get_or b 0 0) 2))
 
 pub offsets : Offsets
 offsets = record { order = in_order; values = λ b. each b (fields (decoded b)) (all b) }

@@ -21,7 +21,7 @@ use Rattle.layout.specs.Usable.{Usable}
 use Rattle.layout.proofs.Soundness.{right_size, sound}
 use Rattle.book.specs.Book.{stored_sheet, stored_answer, with_entry}
 use Rattle.book.specs.Refusals.{making_cases, filing_cases, making, made, filing, filed, reading}
-use Rattle.book.proofs.Responses.{filing_room, reading-sound}
+use Rattle.book.proofs.Responses.{filing_room, reading_sound}
 use Rattle.book.proofs.Sameness.{same_self}
 use Rattle.book.proofs.SheetSize.{sheet_size}
 use Rattle.demands.specs.Demands.{filed_all, ReadsBack, TakesSheets}
@@ -36,11 +36,11 @@ module _ (l : Layout) (usable : Usable l) (sheets : l.sheet ≡ 24) where
     answer_there : stored_answer l book e ≡ answer sheet
 
   -- what holds where a filing is complete
-  complete-filing :
+  complete_filing :
       (book sheet : List ℕ) {bytes : List ℕ} → filing l book sheet ≡ complete bytes →
       Room l book sheet (answer sheet) × (response_to sheet ≡ complete bytes) × (answer sheet ≡ bytes)
   unfolding NoneHolds encoded bytes_of
-  complete-filing book sheet h =
+  complete_filing book sheet h =
       let got = completed (filing_cases l book sheet) (answer sheet) _ h in
       let none = got.0 in
       let is = sound l book (stated l book) usable (none.0, (none.1.0, tt)) refl refl in
@@ -58,7 +58,7 @@ module _ (l : Layout) (usable : Usable l) (sheets : l.sheet ≡ 24) where
     where
       go : (r : Response) → filing l book sheet ≡ r → P (after r (with_entry l book sheet (answer sheet)) book)
       go (refused n) h = p
-      go (complete bytes) h = more book sheet p (complete-filing book sheet h).0
+      go (complete bytes) h = more book sheet p (complete_filing book sheet h).0
 
   module _ (book sheet : List ℕ) (r : Room l book sheet (answer sheet)) where
     abbrev bytes : List ℕ
@@ -73,12 +73,12 @@ module _ (l : Layout) (usable : Usable l) (sheets : l.sheet ≡ 24) where
   reads : (e : ℕ) (sheet book : List ℕ) → response_to sheet ≡ complete (answer sheet) → Holds e sheet book → reading l book e ≡ complete (sheet ++ answer sheet)
   unfolding respond
   reads e sheet book answered h =
-      rw (reading-sound h.is e (sym h.sheet_there) (sym h.answer_there), lt-leb _ _ h.below, answered, same_self (answer sheet))
+      rw (reading_sound h.is e (sym h.sheet_there) (sym h.answer_there), lt-leb _ _ h.below, answered, same_self (answer sheet))
 
   pub reads_back : ReadsBack l
   reads_back lent c Made-so before sheet bytes filed-so later =
       let book = filed_all l (made l lent c) before in
-      let new = complete-filing book sheet filed-so in
+      let new = complete_filing book sheet filed-so in
       let there : Holds (count l book) sheet (filed l book sheet) = rw filed-so (entry_new book sheet new.0) in
       let still = kept (Holds (count l book) sheet) (λ b s h r. entry_kept b s r (count l book) sheet h) later (filed l book sheet) there in
       rw (← new.2) (reads (count l book) sheet (filed_all l (filed l book sheet) later) (new.1 ∙ ap complete (sym new.2)) still, still.sheet_there, still.answer_there)
@@ -104,8 +104,8 @@ module _ (l : Layout) (usable : Usable l) (sheets : l.sheet ≡ 24) where
         record {
           starts_empty = rw Made-so (new_count l c usable fits.1);
           keeps_capacity = λ before. (still_kept before).holds_c;
-          sheet-decides = λ before sheet room. filing_room (still_kept before).is sheet (λ e. omega (arith, (still_kept before).holds_c));
-          counts-one = λ before sheet bytes filed-so.
+          sheet_decides = λ before sheet room. filing_room (still_kept before).is sheet (λ e. omega (arith, (still_kept before).holds_c));
+          counts_one = λ before sheet bytes filed-so.
               let book = filed_all l (made l lent c) before in
-              rw filed-so (raised l book sheet (answer sheet) (complete-filing book sheet filed-so).0);
+              rw filed-so (raised l book sheet (answer sheet) (complete_filing book sheet filed-so).0);
         }

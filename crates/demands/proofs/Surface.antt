@@ -93,8 +93,8 @@ module _ (s : Sheet) (in_range : Admitted s) (k : Thickness) (le : k.0 ≤ 300) 
     pub surface_dens : (0 < (surface under).den) × (0 < (surface over_sum).den)
     surface_dens = (surface_den under dens.0 under_from, surface_den over_sum dens.1 over_from)
 
-    pub both-within :
+    pub both_within :
         let bound = surface_bound s (provided l k) in
         NotBeyond s.flow s.ambient (surface under) bound × NotBeyond s.flow s.ambient (surface over_sum) bound
-    both-within =
+    both_within =
         (surface_within under dens.0 under_from (film_within (lower_sum m) l k), surface_within over_sum dens.1 over_from (film_within (upper_sum m) l k))

@@ -105,11 +105,11 @@ ReadsBack l =
 pub record TakesSheets (l : Layout) (lent : List ℕ) (c : ℕ) : Type 0 where
   pub starts_empty : count l (made l lent c) ≡ 0
   pub keeps_capacity : (before : List (List ℕ)) → capacity l (filed_all l (made l lent c) before) ≡ c
-  pub sheet-decides :
+  pub sheet_decides :
       (before : List (List ℕ)) (sheet : List ℕ) →
       let book = filed_all l (made l lent c) before in
       count l book < c → filing l book sheet ≡ response_to sheet
-  pub counts-one :
+  pub counts_one :
       (before : List (List ℕ)) (sheet bytes : List ℕ) →
       let book = filed_all l (made l lent c) before in
       filing l book sheet ≡ complete bytes → count l (filed l book sheet) ≡ count l book + 1

@@ -1,4 +1,7 @@
-// The calls for Rust and C. Each returns 0, or the number of the refusal; a refused call leaves every lent byte as it was.
+// The calls that `kennelday_c` exports for Rust and C. Each returns 0, or the number of the refusal; a refused call leaves every lent byte as
+// it was.
+#![tactic(auto)]
+
 ghost use Rattle.std.specs.Prelude.{◌≡◌, ℕ, List};
 ghost use Rattle.refusals.specs.Response.{after};
 ghost use Rattle.sheet.specs.Refusals.{response_to};
@@ -19,8 +22,7 @@ use reading::read;
 use refusals::Completion;
 
 // The answer to a sheet.
-#[unsafe(no_mangle)]
-pub extern "C" fn kd_answer(sheet: &[u8], answer: &mut [u8; 8]) -> u8
+pub fn kd_answer(sheet: &[u8], answer: &mut [u8; 8]) -> u8
     ensures value { result ≡ code (response_to sheet.now) }
     ensures answer_after { answer.new ≡ handed (response_to sheet.now) answer.old }
 {
@@ -28,8 +30,7 @@ pub extern "C" fn kd_answer(sheet: &[u8], answer: &mut [u8; 8]) -> u8
 }
 
 // A new book.
-#[unsafe(no_mangle)]
-pub extern "C" fn kd_new_book(book: &mut [u8], capacity: u64) -> u8
+pub fn kd_new_book(book: &mut [u8], capacity: u64) -> u8
     ensures value { result ≡ code (making standard book.old capacity) }
     ensures book_after { book.new ≡ made standard book.old capacity }
 {
@@ -37,8 +38,7 @@ pub extern "C" fn kd_new_book(book: &mut [u8], capacity: u64) -> u8
 }
 
 // A sheet filed with its answer.
-#[unsafe(no_mangle)]
-pub extern "C" fn kd_file(book: &mut [u8], sheet: &[u8], answer: &mut [u8; 8]) -> u8
+pub fn kd_file(book: &mut [u8], sheet: &[u8], answer: &mut [u8; 8]) -> u8
     ensures value { result ≡ code (filing standard book.old sheet.now) }
     ensures book_after { book.new ≡ filed standard book.old sheet.now }
     ensures answer_after { answer.new ≡ handed (filing standard book.old sheet.now) answer.old }
@@ -47,8 +47,7 @@ pub extern "C" fn kd_file(book: &mut [u8], sheet: &[u8], answer: &mut [u8; 8]) -
 }
 
 // An entry of a book.
-#[unsafe(no_mangle)]
-pub extern "C" fn kd_read(book: &[u8], entry: u64, sheet: &mut [u8; 24], answer: &mut [u8; 8]) -> u8
+pub fn kd_read(book: &[u8], entry: u64, sheet: &mut [u8; 24], answer: &mut [u8; 8]) -> u8
     ensures value { result ≡ code (reading standard book.now entry) }
     ensures sheet_after { sheet.new ≡ after (reading standard book.now entry) (stored_sheet standard book.now entry) sheet.old }
     ensures answer_after { answer.new ≡ after (reading standard book.now entry) (stored_answer standard book.now entry) answer.old }
@@ -57,8 +56,7 @@ pub extern "C" fn kd_read(book: &[u8], entry: u64, sheet: &mut [u8; 24], answer:
 }
 
 // The yearly share of an investment.
-#[unsafe(no_mangle)]
-pub extern "C" fn kd_share(rate: u64, years: u64, share: &mut u16) -> u8
+pub fn kd_share(rate: u64, years: u64, share: &mut u16) -> u8
     ensures value { result ≡ code (share_response rate years) }
     ensures share_after { share.new ≡ after (share_response rate years) (exact_share rate years) share.old }
 {

@@ -1,1 +1,3 @@
+#![tactic(auto)]
+
 // The figures of docs/METHOD.md: no code, only facts about the definitions (specs/Method.antt).

@@ -2,7 +2,7 @@
 ghost use Rattle.std.specs.Prelude.{◌≡◌, ◌++◌, ◌<◌};
 ghost use Rattle.lengths.specs.Ladder.{rungs, thickness_at};
 ghost use Rattle.refusals.specs.Response.{respond};
-ghost use Rattle.provision.specs.Provided.{provided as provided_provided};
+ghost use Rattle.provision.specs.Provided.{provided as provided_by};
 ghost use Rattle.sheet.specs.Sheet.{difference as sheet_difference, goal_of};
 ghost use Rattle.sheet.specs.Search.{required_of, chosen};
 ghost use Rattle.answer.specs.Answer.{encoded};
@@ -76,7 +76,7 @@ fn search_ladder(sheet: Sheet) -> Outcome
 // Judges the first rung that does not miss: its index is r, and its have `provided`.
 fn judge_rung(sheet: Sheet, difference: u64, need: Bounds, r: u64, provided: Bounds) -> Outcome
     requires admitted { Admitted sheet × (difference ≡ sheet_difference sheet) × (need ≡ required_of sheet (goal_of sheet)) }
-    requires r_value { (r ≡ chosen sheet) × (r < rungs) × (provided ≡ provided_provided sheet.line (thickness_at r)) }
+    requires first_rung { (r ≡ chosen sheet) × (r < rungs) × (provided ≡ provided_by sheet.line (thickness_at r)) }
     ensures { response result ≡ respond (ladder_cases sheet) (encoded (answer_of sheet (chosen sheet))) }
 {
     if judge(provided, need).is_undecided() {
@@ -87,7 +87,7 @@ fn judge_rung(sheet: Sheet, difference: u64, need: Bounds, r: u64, provided: Bou
 
 // The answer with the rung of index r, whose have is `provided`.
 fn answer_of(sheet: Sheet, difference: u64, r: u64, provided: Bounds) -> Answer
-    requires { Admitted sheet × (difference ≡ sheet_difference sheet) × (provided ≡ provided_provided sheet.line (thickness_at r)) }
+    requires { Admitted sheet × (difference ≡ sheet_difference sheet) × (provided ≡ provided_by sheet.line (thickness_at r)) }
     ensures { result ≡ answer_of sheet r }
 {
     Answer {

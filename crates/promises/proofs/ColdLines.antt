@@ -66,4 +66,4 @@ exchanged cold hot e =
     rw (e.inward, e.outward, e.economy.0, e.economy.1, e.temperatures.0, e.temperatures.1, e.same_line, e.same_terms) (refl, refl)
 
 pub cold_lines : ColdLines
-cold_lines = record { checks = cold_checks; bound-between = cold_bound; as_on_steam = exchanged }
+cold_lines = record { checks = cold_checks; bound_between = cold_bound; as_on_steam = exchanged }

@@ -29,7 +29,7 @@ pub record ColdLines : Type 0 where
   -- "Both checks of a cold sheet read 0 for surface and 3 for loss.", in the eight bytes
   pub checks : (sheet bytes : List ℕ) → ColdAnswer sheet bytes → (length bytes ≡ 8) × (get_or bytes 5 0 ≡ 0) × (get_or bytes 4 0 ≡ 3)
   -- the surface bound is "never below t", and not above ta
-  pub bound-between :
+  pub bound_between :
       (sheet bytes : List ℕ) → ColdAnswer sheet bytes → let bound = (signed (big_endian bytes 6 2)).0 in
       ((decoded sheet).temperature.0 ≤ bound) × (bound ≤ (decoded sheet).ambient.0)
   -- "demand 3 judges a chilled line's thickness just as on steam": by the same requirement, so that the thickness is the same

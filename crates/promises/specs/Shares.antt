@@ -23,7 +23,7 @@ pub record Shares : Type 0 where
   -- "S falls as growth rises": of any two growths above 1
   pub share_falls : (i : ℕ) (g h : Fraction) → 0 < i → AboveOne g → AboveOne h → g ≺ h → share i h ≺ share i g
   -- "so the two growth figures enclose it", from a rate and a term of 1 up
-  pub share-enclosed :
+  pub share_enclosed :
       (i n : ℕ) → 1 ≤ i → 1 ≤ n →
       (share i (rounded_growth ceiling i n) ≼ share i (exact_growth i n)) × (share i (exact_growth i n) ≼ share i (rounded_growth floor i n))
   -- "to the nearest 0.0001, a half going up"

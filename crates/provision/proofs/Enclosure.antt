@@ -22,12 +22,12 @@ use Rattle.provision.specs.Provided.{insulation, film, from_figures, insulation_
 use Rattle.provision.specs.Exact.{from_sum, provided_exactly}
 
 -- no thinner, on a logarithm that is no less
-pub insulation-mono :
+pub insulation_mono :
     (f g : Diameter → Diameter → Fraction) (s : Shape) (D : Diameter) {j k : Thickness} → j.0 ≤ k.0 → f D (outer_diameter D j) ≼ g D (outer_diameter D k) →
     insulation f s D j ≼ insulation g s D k
 unfolding insulation
-insulation-mono f g Cylinder D {j} {k} le h = omega (arith, mul-le-mul {n₁ = (outer_diameter D j).0} {n₂ = (outer_diameter D k).0} (omega arith) h)
-insulation-mono f g Flat D le h = omega arith
+insulation_mono f g Cylinder D {j} {k} le h = omega (arith, mul-le-mul {n₁ = (outer_diameter D j).0} {n₂ = (outer_diameter D k).0} (omega arith) h)
+insulation_mono f g Flat D le h = omega arith
 
 pub insulation_den : (f : Diameter → Diameter → Fraction) (s : Shape) (D : Diameter) (k : Thickness) → 0 < (f D (outer_diameter D k)).den → 0 < (insulation f s D k).den
 unfolding insulation
@@ -47,13 +47,13 @@ module _ (l : Line) (m : ℕ) (hα : 1 ≤ l.coefficient) (hD : 1 ≤ l.diameter
   unfolding film
   quotients_den f k pos = mul-pos (insulation_den f (shape_of l) l.diameter k pos) hα
 
-  quotients-mono :
+  quotients_mono :
       (f g : Diameter → Diameter → Fraction) {j k : Thickness} → j.0 ≤ k.0 →
       f l.diameter (outer_diameter l.diameter j) ≼ g l.diameter (outer_diameter l.diameter k) →
       plus (insulation f (shape_of l) l.diameter j) (film l) ≼ plus (insulation g (shape_of l) l.diameter k) (film l)
-  quotients-mono f g {j} {k} le h =
+  quotients_mono f g {j} {k} le h =
       let D = l.diameter in
-      plus_mono (insulation f (shape_of l) D j) (film l) (insulation g (shape_of l) D k) (film l) (insulation-mono f g (shape_of l) D le h) (le_refl _)
+      plus_mono (insulation f (shape_of l) D j) (film l) (insulation g (shape_of l) D k) (film l) (insulation_mono f g (shape_of l) D le h) (le_refl _)
 
   pub lower_provided_den : (k : Thickness) → 0 < (provided_exactly (lower_sum m) l k).den
   unfolding provided_exactly
@@ -69,7 +69,7 @@ module _ (l : Line) (m : ℕ) (hα : 1 ≤ l.coefficient) (hD : 1 ≤ l.diameter
       let log = from_figures lower_log in
       let D = l.diameter in
       ≼_trans _ _ _ (quotients_den log k (omega arith)) (floors_below (insulation log (shape_of l) D k) (film l))
-      (quotients-mono log (from_sum (lower_sum m)) (le_refl k.0) (omega (arith, (enclosed m D (outer_diameter D k) hm hD).lower)))
+      (quotients_mono log (from_sum (lower_sum m)) (le_refl k.0) (omega (arith, (enclosed m D (outer_diameter D k) hm hD).lower)))
 
   pub provided_above : (k : Thickness) → provided_exactly (upper_sum m) l k ≼ (provided l k).upper over 1
   unfolding provided insulation_bounds film_bounds provided_exactly film
@@ -77,7 +77,7 @@ module _ (l : Line) (m : ℕ) (hα : 1 ≤ l.coefficient) (hD : 1 ≤ l.diameter
       let log = from_figures upper_log in
       let D = l.diameter in
       ≼_trans _ _ _ (quotients_den log k (omega arith))
-      (quotients-mono (from_sum (upper_sum m)) log (le_refl k.0) (omega (arith, (enclosed m D (outer_diameter D k) hm hD).upper)))
+      (quotients_mono (from_sum (upper_sum m)) log (le_refl k.0) (omega (arith, (enclosed m D (outer_diameter D k) hm hD).upper)))
       (ceilings_above (insulation log (shape_of l) D k) (film l) (insulation_den log (shape_of l) D k (omega arith)) hα)
 
   pub provided_grows : {j k : Thickness} → j.0 ≤ k.0 → provided_exactly (lower_sum m) l j ≼ provided_exactly (upper_sum m) l k
@@ -86,7 +86,7 @@ module _ (l : Line) (m : ℕ) (hα : 1 ≤ l.coefficient) (hD : 1 ≤ l.diameter
       let D = l.diameter in
       let E = outer_diameter D k in
       let sums = ≼_trans (lower_sum m D (outer_diameter D j)) (lower_sum m D E) (upper_sum m D E) (lower_den m D E) (sum_mono midpoint m D (omega arith)) (enclosed m D E hm hD).sums in
-      quotients-mono (from_sum (lower_sum m)) (from_sum (upper_sum m)) le (omega (arith, mul-le-mul_right (10 ^ 5) sums))
+      quotients_mono (from_sum (lower_sum m)) (from_sum (upper_sum m)) le (omega (arith, mul-le-mul_right (10 ^ 5) sums))
 
 -- what is provided is no less than the film
 pub film_within : (sum : Diameter → Diameter → Fraction) (l : Line) (k : Thickness) → film l ≼ provided_exactly sum l k

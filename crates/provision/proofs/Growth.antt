@@ -14,7 +14,7 @@ use Rattle.line.specs.declared.Line.{Line}
 use Rattle.line.specs.declared.Shape.{Shape}
 use Rattle.line.specs.Line.{shape_of}
 use Rattle.provision.specs.Provided.{insulation, from_figures, insulation_bounds, provided}
-use Rattle.provision.proofs.Enclosure.{insulation-mono, insulation_den}
+use Rattle.provision.proofs.Enclosure.{insulation_mono, insulation_den}
 
 -- of the figures of either side
 module _ (step : ℕ → ℕ) (s : Shape) (D : Diameter) {j k : Thickness} (le : j.0 ≤ k.0) where
@@ -22,7 +22,7 @@ module _ (step : ℕ → ℕ) (s : Shape) (D : Diameter) {j k : Thickness} (le :
   figures = insulation (from_figures (λ d e. total step d.0 (e.0 - d.0))) s D
 
   pub grows : figures j ≼ figures k
-  grows = insulation-mono _ _ s D le (mul-le-mul_right _ (total_grows step D.0 (omega arith)))
+  grows = insulation_mono _ _ s D le (mul-le-mul_right _ (total_grows step D.0 (omega arith)))
 
   pub proper : (i : Thickness) → 0 < (figures i).den
   proper i = insulation_den _ s D i (omega arith)

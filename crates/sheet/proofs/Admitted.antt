@@ -25,9 +25,9 @@ use Rattle.sheet.specs.Admitted.{Admitted}
 use Rattle.sheet.proofs.FirstFault.{inside, behind}
 
 -- each goal's own range, from the fields that only it uses, and from case 16
-goal-in-range :
+goal_in_range :
     (s : Sheet) (g : GoalCode) → is_fault (first_fault 13 (economy_fields (uses_economy g) s ++ aim_fields (uses_aim g) s)) ≡ false → difference s ≤ 7_000 → aim_refused s g ≡ false → GoalInRange (goal_with s g)
-goal-in-range s ForEconomy fields near aim =
+goal_in_range s ForEconomy fields near aim =
     let heat = inside 13 _ _ fields refl in
     let hours = inside 13 _ _ heat.rest refl in
     let insulation = inside 13 _ _ hours.rest refl in
@@ -40,19 +40,19 @@ goal-in-range s ForEconomy fields near aim =
       share_from = share.least;
       share_to = share.most;
     }
-goal-in-range s ForLoss fields near aim = pos_of_ne-zero (eqb-false _ _ aim)
-goal-in-range s ForSurface fields near aim =
+goal_in_range s ForLoss fields near aim = pos_of_ne-zero (eqb-false _ _ aim)
+goal_in_range s ForSurface fields near aim =
     let from_air = beyond s.flow (surface_aim s) s.ambient in
     let to_pipe = beyond s.flow s.temperature (surface_aim s) in
     let both = (and-eq-true_iff from_air to_pipe).0 (not-false (from_air && to_pipe) aim) in
     (differs s.flow (surface_aim s) s.ambient both.0, le_trans (no_more s.flow s.temperature (surface_aim s) s.ambient both.1) near)
 
 -- the largest difference of a hot line, and that of a cold one
-near-enough :
+near_enough :
     (f : HeatFlow) (t ta : Temperature) → least_temperature f ≤ t.0 → t.0 ≤ zero_degrees + 6_500 → zero_degrees - 500 ≤ ta.0 → ta.0 ≤ zero_degrees + 500 →
     temperature_difference f t ta ≤ 7_000
-near-enough Outward t ta from to air-from air-to = omega arith
-near-enough Inward t ta from to air-from air-to = omega arith
+near_enough Outward t ta from to air-from air-to = omega arith
+near_enough Inward t ta from to air-from air-to = omega arith
 
 pub admitted : (s : Sheet) → NoneHolds (value_cases s) → Admitted s
 unfolding NoneHolds
@@ -65,7 +65,7 @@ admitted s f =
     let ambient = inside 13 _ _ temperature.rest refl in
     let conductivity = inside 13 _ _ ambient.rest refl in
     let coefficient = inside 13 _ _ conductivity.rest refl in
-    let near : difference s ≤ 7_000 = near-enough s.flow s.temperature s.ambient temperature.least temperature.most ambient.least ambient.most in
+    let near : difference s ≤ 7_000 = near_enough s.flow s.temperature s.ambient temperature.least temperature.most ambient.least ambient.most in
     record {
       service_from = service.least;
       service_to = service.most;
@@ -76,5 +76,5 @@ admitted s f =
       ambient_to = ambient.most;
       difference_from = differs s.flow s.temperature s.ambient (not-false _ f.1.1.1.0);
       difference_to = near;
-      goal = goal-in-range s s.goal coefficient.rest near f.1.1.1.1.0;
+      goal = goal_in_range s s.goal coefficient.rest near f.1.1.1.1.0;
     }

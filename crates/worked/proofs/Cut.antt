@@ -5,7 +5,7 @@ use mathlib.Core.List.{List, ◌++◌, append-nil, append_assoc}
 use Prim.Native.Nat.{ℕ, zero, suc, ◌+◌, ◌*◌, ◌<◌, ◌≤◌}
 use native.Mathlib.Nat.{add-zero, add-suc}
 use native.Mathlib.Omega.{arith}
-use lib.ListN.{length, take, drop, length-append, length-drop}
+use lib.ListN.{length, drop, length-append, length-drop}
 use lib.Seq.{drop-append-add, take-append-le, drop-append-le}
 use Rattle.text.specs.Text.{concatenated}
 use Rattle.listing_text.specs.Listing.{chunks, chunk, line_at, lines_of, header, listing}

@@ -20,4 +20,4 @@ use Rattle.worked.proofs.Cut.{listing_cut}
 
 pub worked_listing : WorkedListing
 unfolding lower_step upper_step least insulation film insulation_bounds film_bounds provided requirement enclosing first_not_insufficient big_endian bytes_of decoded neighbours loss_limit loss_check surface_check surface_bound encoded answer_of first_fault respond decimal_up_to decimal concatenated line_of
-worked_listing = record { f-then-g = refl; empty = refl; in_blocks = listing_cut }
+worked_listing = record { f_then_g = refl; empty = refl; in_blocks = listing_cut }

@@ -20,7 +20,6 @@ use Rattle.answer.specs.Answer.{encoded}
 use Rattle.refusals.specs.Cases.{NoneHolds}
 use Rattle.refusals.specs.Response.{refused, respond}
 use Rattle.refusals.proofs.Response.{first_at}
-use Rattle.sheet.specs.declared.fields.Sheet.{Sheet}
 use Rattle.sheet.specs.Sheet.{decoded, surface_aim}
 use Rattle.sheet.specs.Fields.{first_fault}
 use Rattle.sheet.specs.Answer.{loss_check, surface_check, surface_bound, answer_of, answer}

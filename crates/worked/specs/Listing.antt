@@ -7,7 +7,7 @@ use Rattle.worked.specs.Sheets.{sheet_f, sheet_g}
 
 pub record WorkedListing : Type 0 where
   -- "For F then G it prints in full"
-  pub f-then-g :
+  pub f_then_g :
       listing (sheet_f 2 800 ++ sheet_g) ≡
       (ascii "line shape mm loss surface upto\n" ++ ascii "7 flat 50 within within 30.0\n" ++ ascii "9 refused 18\n")
   -- "The header always stands first, also for empty input."

@@ -1,1 +1,3 @@
+#![tactic(auto)]
+
 // The sheets, the listing and the book that are worked by hand: no code, only facts about the definitions (specs/).

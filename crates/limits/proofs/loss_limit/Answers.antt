@@ -41,7 +41,7 @@ returns c =
     let row = past c.args.temperature / 500 in
     let low = placed c.args.service row c.requires.0 c.requires.1 (omega arith) in
     let high = placed c.args.service (suc row) c.requires.0 c.requires.1 (omega arith) in
-    let printed-high : c.printed.result ≡ get_or flat_table (place (suc row) c.args.service) 0 = rw (← add-one row) c.printed.ensures.0 in
+    let printed_high : c.printed.result ≡ get_or flat_table (place (suc row) c.args.service) 0 = rw (← add-one row) c.printed.ensures.0 in
     let line = lt-leb c.args.service 2 c.if-service-le2.false in
     let beyond = ne_eqb (past c.args.temperature % 500) 0 c.if-beyond-eq0.false in
-    rw (at, line, beyond, c.interpolate.ensures, low, high, c.printed-low.ensures.0, printed-high)
+    rw (at, line, beyond, c.interpolate.ensures, low, high, c.printed-low.ensures.0, printed_high)

@@ -15,7 +15,7 @@ use Rattle.refusals.specs.Response.{respond}
 use Rattle.sheet.specs.Refusals.{response_to}
 use Rattle.book.specs.Book.{stored_sheet, stored_answer}
 use Rattle.book.specs.Refusals.{gives, reading}
-use Rattle.book.proofs.Responses.{reading-sound}
+use Rattle.book.proofs.Responses.{reading_sound}
 use Rattle.reading.proofs.read_in.Statement.{statement}
 use Rattle.reading.proofs.read_in.Tie as tie
 
@@ -34,14 +34,14 @@ module _ (c : tie.After-slot2) where
   unfolding respond
   decided =
       let below : leb s.args.sizes.count s.args.entry ≡ false = lt-leb _ _ c.before.before.before.before.if1.false in
-      rw below at (reading-sound s.pre.0 s.args.entry sheet_there answer_there)
+      rw below at (reading_sound s.pre.0 s.args.entry sheet_there answer_there)
 
 returns : tie.Need-returns
 unfolding respond
 returns c =
     let start = c.before.before.before.before.before in
     let beyond : leb start.args.sizes.count start.args.entry ≡ true = le-leb _ _ c.if1.true in
-    rw (reading-sound start.requires.0 start.args.entry refl refl, beyond) (refl, (refl, refl))
+    rw (reading_sound start.requires.0 start.args.entry refl refl, beyond) (refl, (refl, refl))
 
 slot-requires : tie.Need-slot-requires
 slot-requires c κs =

@@ -39,13 +39,13 @@ impl Drop for Folder {
 }
 
 /// The proved program: the one that the variable names, or else
-/// target/bin/listing beside the workspace.
+/// crates/listing/out/listing beside the workspace.
 fn proved_program() -> PathBuf {
     if let Some(chosen) = env::var_os(VARIABLE) {
         return chosen.into();
     }
     let root = Path::new(env!("CARGO_MANIFEST_DIR")).ancestors().nth(2);
-    root.expect("two folders up").join("target/bin/listing")
+    root.expect("two folders up").join("crates/listing/out/listing")
 }
 
 /// The floating-point program, which cargo puts beside this one.
@@ -57,7 +57,7 @@ fn float_program() -> PathBuf {
 /// Both programs. If one is missing, a sentence says what builds it.
 fn programs() -> Option<[PathBuf; 2]> {
     let programs = [
-        (proved_program(), "`rt check listing`"),
+        (proved_program(), "`rt run` in crates/listing"),
         (float_program(), "`cargo build --release --offline`"),
     ];
     let mut complete = true;

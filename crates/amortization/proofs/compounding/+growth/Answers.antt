@@ -1,0 +1,19 @@
+-- The product of a year fits, and a year more is the last one.
+use Rattle.std.proofs.Common.{◌-◌, ap, sym, ◌∙◌, arith}
+use Rattle.amortization.specs.Growth.{year as growth_year, growth as growth_growth, rounded_to}
+use Rattle.amortization.proofs.Growth.{year_fits, last_year}
+use Rattle.amortization.proofs.compounding.+growth.Goals as goal
+
+pub year-requires-clause-product_bound : goal.year-requires-clause-product_bound
+year-requires-clause-product_bound t c =
+    let fits = year_fits c.args.rounding c.args.rate (c.args.left - 1) c.requires.rate_bound (omega arith) in
+    rw c.growth.ensures (omega (arith, fits))
+
+pub returns-then-left-gt0 : goal.returns-then-left-gt0
+returns-then-left-gt0 t c =
+    let round = rounded_to c.args.rounding in
+    c.year.ensures ∙ ap (growth_year round c.args.rate) c.growth.ensures ∙ sym (last_year round c.args.rate c.args.left c.if-left-gt0.true)
+
+pub returns-else-left-gt0 : goal.returns-else-left-gt0
+unfolding growth_growth
+returns-else-left-gt0 t c = ap (growth_growth (rounded_to c.args.rounding) c.args.rate) {x = 0} {y = c.args.left} (omega arith)

@@ -1,0 +1,5 @@
+-- The years left.
+use Rattle.amortization.proofs.compounding.+growth.Given as goal
+
+abbrev pub decreases-growth : goal.decreases-growth
+decreases-growth l = l.left
