@@ -1,20 +1,16 @@
 -- Parts of bytes that other bytes were put over.
 -- Assumes nothing.
 use mathlib.Core.Path.{◌≡◌}
-use mathlib.Core.List.{List, [], ◌∷◌, ◌++◌, append_assoc, append-nil}
+use mathlib.Core.List.{List, [], ◌∷◌, ◌++◌, append_assoc}
 use Prim.Native.Nat.{ℕ, zero, suc, ◌+◌, ◌-◌, ◌≤◌}
 use native.Mathlib.Nat.{add-sub_of_le, suc-add}
 use native.Mathlib.Omega.{arith}
 use lib.ListN.{length, take, drop, length-append, length-take, length-drop}
-use lib.Seq.{length-take-le, take-length, drop-length, take-append_seam, take-append-le, take-take, drop_at, drop-drop}
+use lib.Seq.{length-take-le, take-append_seam, take-append-le, take-take, drop_at, drop-drop}
 use Rattle.overlay.specs.Overlay.{part, overlay}
 
 pub length_part : (b : List ℕ) (offset n : ℕ) → offset + n ≤ length b → length (part b offset n) ≡ n
 length_part b offset n within = length-take-le n (drop offset b) (omega (arith, length-drop offset b))
-
--- what `bytes::copy` leaves of a run of the same length
-pub copied : (v w : List ℕ) → length v ≡ length w → take (length v) v ++ drop (length v) w ≡ v
-copied v w same = rw (take-length v, same, drop-length w, append-nil)
 
 module _ (b : List ℕ) (offset : ℕ) (v : List ℕ) where
   pub length_overlay : offset + length v ≤ length b → length (overlay b offset v) ≡ length b
