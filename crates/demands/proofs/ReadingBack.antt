@@ -76,36 +76,36 @@ module _ (l : Layout) (usable : Usable l) (sheets : l.sheet ≡ 24) where
       rw (reading_sound h.is e (sym h.sheet_there) (sym h.answer_there), lt-leb _ _ h.below, answered, same_self (answer sheet))
 
   pub reads_back : ReadsBack l
-  reads_back lent c Made-so before sheet bytes filed-so later =
+  reads_back lent c made_so before sheet bytes filed_so later =
       let book = filed_all l (made l lent c) before in
-      let new = complete_filing book sheet filed-so in
-      let there : Holds (count l book) sheet (filed l book sheet) = rw filed-so (entry_new book sheet new.0) in
+      let new = complete_filing book sheet filed_so in
+      let there : Holds (count l book) sheet (filed l book sheet) = rw filed_so (entry_new book sheet new.0) in
       let still = kept (Holds (count l book) sheet) (λ b s h r. entry_kept b s r (count l book) sheet h) later (filed l book sheet) there in
       rw (← new.2) (reads (count l book) sheet (filed_all l (filed l book sheet) later) (new.1 ∙ ap complete (sym new.2)) still, still.sheet_there, still.answer_there)
 
   -- a book that filings made of a new one of capacity c
-  module _ (lent : List ℕ) (c : ℕ) (Made-so : making l lent c ≡ complete []) where
+  module _ (lent : List ℕ) (c : ℕ) (made_so : making l lent c ≡ complete []) where
     record Kept (book : List ℕ) : Type 0 where
       is : Sound l book
       holds_c : capacity l book ≡ c
 
     fits : (1 ≤ c) × (c ≤ l.largest) × (length lent ≡ bytes_for l c)
     unfolding NoneHolds
-    fits = right_size l (length lent) c (completed (making_cases l lent c) [] [] Made-so).0.0
+    fits = right_size l (length lent) c (completed (making_cases l lent c) [] [] made_so).0.0
 
     still_kept : (before : List (List ℕ)) → Kept (filed_all l (made l lent c) before)
     still_kept before =
         kept Kept (λ book sheet k r. record { is = still_sound l book sheet (answer sheet) r; holds_c = same_capacity l book sheet (answer sheet) r ∙ k.holds_c })
         before (made l lent c)
-        (rw Made-so (record { is = new_sound l c usable fits.1 fits.0; holds_c = new_capacity l c usable fits.1 }))
+        (rw made_so (record { is = new_sound l c usable fits.1 fits.0; holds_c = new_capacity l c usable fits.1 }))
 
     pub takes_sheets : TakesSheets l lent c
     takes_sheets =
         record {
-          starts_empty = rw Made-so (new_count l c usable fits.1);
+          starts_empty = rw made_so (new_count l c usable fits.1);
           keeps_capacity = λ before. (still_kept before).holds_c;
           sheet_decides = λ before sheet room. filing_room (still_kept before).is sheet (λ e. omega (arith, (still_kept before).holds_c));
-          counts_one = λ before sheet bytes filed-so.
+          counts_one = λ before sheet bytes filed_so.
               let book = filed_all l (made l lent c) before in
-              rw filed-so (raised l book sheet (answer sheet) (complete_filing book sheet filed-so).0);
+              rw filed_so (raised l book sheet (answer sheet) (complete_filing book sheet filed_so).0);
         }

@@ -53,7 +53,7 @@ module _ (s : Sheet) (in_range : Admitted s) (k : Thickness) (le : k.0 ≤ 300) 
   figure_den = mul-pos (omega (arith, in_range.line.coefficient_from)) some
 
   -- where p is provided, a fraction no less than the lower figure: the surface is no farther from the air than by the figure
-  module _ (p : Fraction) (pos : 0 < p.den) (from-figure : lower over 1 ≼ p) where
+  module _ (p : Fraction) (pos : 0 < p.den) (from_figure : lower over 1 ≼ p) where
     surface_den : 0 < (surface p).den
     unfolding film
     surface_den = mul-pos (omega (arith, in_range.line.coefficient_from)) (omega (arith, mul-le-mul some pos))
@@ -61,17 +61,17 @@ module _ (s : Sheet) (in_range : Admitted s) (k : Thickness) (le : k.0 ≤ 300) 
     to_figure : surface p ≼ ceiling (surface (lower over 1)) over 1
     to_figure =
         let figure = surface (lower over 1) in
-        ≼_trans (surface p) figure (ceiling figure over 1) figure_den (omega (arith, mul-le-mul_right ((film l).num * difference s * (film l).den) from-figure))
+        ≼_trans (surface p) figure (ceiling figure over 1) figure_den (omega (arith, mul-le-mul_right ((film l).num * difference s * (film l).den) from_figure))
         (omega (arith, ceiling_above figure figure_den))
 
     -- nor is it farther than the pipe, p being no less than the film
     surface_within : film l ≼ p → NotBeyond s.flow s.ambient (surface p) (surface_bound s (provided l k))
     unfolding surface_bound
-    surface_within from-film =
+    surface_within from_film =
         let q = ceiling (surface (lower over 1)) in
         not_beyond s.flow s.ambient (min (difference s) q) (surface_bound s (provided l k)) (surface p)
         (bound_beyond s.flow s.temperature s.ambient q in_range.difference_from)
-        (not_above_min (surface p) (difference s) q (omega (arith, mul-le-mul_right (difference s) from-film)) to_figure)
+        (not_above_min (surface p) (difference s) q (omega (arith, mul-le-mul_right (difference s) from_film)) to_figure)
 
   -- what is provided exactly, by either sum of a cutting m
   module _ (m : ℕ) (hm : 1 ≤ m) where

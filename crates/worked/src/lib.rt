@@ -1,3 +1,2 @@
-#![tactic(auto)]
-
 // The sheets, the listing and the book that are worked by hand: no code, only facts about the definitions (specs/).
+#![tactic(auto)]
