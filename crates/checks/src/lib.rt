@@ -1,4 +1,6 @@
 // The checks of a thickness, the bound on the surface's temperature, and a sheet's goal with its temperature difference.
+#![tactic(auto)]
+
 mod goal;
 
 ghost use Rattle.std.specs.Prelude.{◌≡◌, ◌^◌, ◌≤◌};

@@ -4,7 +4,7 @@ ghost use Rattle.overlay.specs.Overlay.{Written};
 ghost use Rattle.listing_text.specs.Listing.{header, chunks, lines_of};
 ghost use Rattle.listing_text.specs.Listing.{chunk as listing_chunk};
 
-use crate::line::put_line;
+use crate::sheet_line::put_line;
 use overlay::put;
 
 // Puts the header at the start of out, and returns where it ends.

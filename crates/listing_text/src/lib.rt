@@ -1,6 +1,8 @@
 // The listing's text.
+#![tactic(auto)]
+
 mod block;
-mod line;
+mod sheet_line;
 
 pub use block::{put_header, put_lines};
-pub use line::put_line;
+pub use sheet_line::put_line;

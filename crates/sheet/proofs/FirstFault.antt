@@ -8,7 +8,6 @@ use borrow.Author.Tests.{eq-eqb, ne_eqb}
 use Rattle.refusals.specs.Range.{outside}
 use Rattle.refusals.proofs.Range.{inside as within}
 use Rattle.sheet.specs.declared.fields.Sheet.{Sheet}
-use Rattle.sheet.specs.declared.faults.Fault.{Fault}
 use Rattle.sheet.specs.declared.faults.Fault.TheVariants.{None, At}
 use Rattle.sheet.specs.Fields.{Field, economy_fields, aim_fields, or_else, first_fault, is_fault}
 

@@ -1,5 +1,5 @@
 -- The economy fields where they are not used, and then the aim.
-use Rattle.std.proofs.Common.{sym, ◌∙◌}
+use Rattle.std.proofs.Common.{sym}
 use Rattle.sheet.specs.Fields.{first_fault}
 use Rattle.sheet.proofs.fields.Sheet.zero_fault.Goals as goal
 
