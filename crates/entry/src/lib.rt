@@ -1,4 +1,6 @@
 // The entry that a filing makes.
+#![tactic(auto)]
+
 ghost use Rattle.std.specs.Prelude.{◌≡◌, ◌<◌, length};
 ghost use Rattle.answer.specs.Answer.{encoded};
 ghost use Rattle.layout.specs.SoundBook.{SoundBook};
@@ -12,7 +14,7 @@ use overlay::put;
 // Files a sheet with its answer where there is room.
 pub fn enter(layout: Layout, book: &mut [u8], sizes: Sizes, sheet: &[u8], answer: Answer)
     requires sound_book { SoundBook layout book.old sizes }
-    requires count_lt_capacity { (sizes.count < sizes.capacity) × (length sheet.now ≡ layout.sheet) }
+    requires fits { (sizes.count < sizes.capacity) × (length sheet.now ≡ layout.sheet) }
     ensures { book.new ≡ with_entry layout book.old sheet.now (encoded answer) }
 {
     store(layout, book, sizes, sheet, answer);
@@ -21,7 +23,7 @@ pub fn enter(layout: Layout, book: &mut [u8], sizes: Sizes, sheet: &[u8], answer
 // Writes slot n of both arrays and raises the count by one.
 fn store(layout: Layout, book: &mut [u8], sizes: Sizes, sheet: &[u8], answer: Answer)
     requires sound_book { SoundBook layout book.old sizes }
-    requires count_lt_capacity { (sizes.count < sizes.capacity) × (length sheet.now ≡ layout.sheet) }
+    requires fits { (sizes.count < sizes.capacity) × (length sheet.now ≡ layout.sheet) }
     ensures { book.new ≡ with_entry layout book.old sheet.now (encoded answer) }
 {
     let sheet_offset = layout.sheet_offset(sizes.count);

@@ -1,4 +1,6 @@
 // Filing a sheet with its answer.
+#![tactic(auto)]
+
 ghost use Rattle.std.specs.Prelude.{◌≡◌};
 ghost use Rattle.outcome.specs.Outcome.{response};
 ghost use Rattle.layout.specs.Layout.{standard};
@@ -12,7 +14,7 @@ use refusals::Refusal;
 
 // Works out the sheet and files it with its answer.
 pub fn file(book: &mut [u8], sheet: &[u8]) -> Outcome
-    ensures result_value { response result ≡ filing standard book.old sheet.now }
+    ensures response { response result ≡ filing standard book.old sheet.now }
     ensures book_after { book.new ≡ filed standard book.old sheet.now }
 {
     let layout = Layout::standard();
@@ -25,8 +27,8 @@ pub fn file(book: &mut [u8], sheet: &[u8]) -> Outcome
 // Files in a sound book of these sizes.
 fn file_in(layout: Layout, book: &mut [u8], sizes: Sizes, sheet: &[u8]) -> Outcome
     requires sound_book { SoundBook layout book.old sizes }
-    requires sheet_value { layout.sheet ≡ 24 }
-    ensures result_value { response result ≡ filing layout book.old sheet.now }
+    requires sheet_size { layout.sheet ≡ 24 }
+    ensures response { response result ≡ filing layout book.old sheet.now }
     ensures book_after { book.new ≡ filed layout book.old sheet.now }
 {
     if sizes.count == sizes.capacity {
