@@ -22,7 +22,7 @@ unfolding same_bytes
 same_self [] = refl
 same_self (x ∷ xs) = rw (eq-eqb x x refl, same_self xs)
 
--- what `check::same` says of them
+-- a test that holds of equal runs and of no others
 pub compared : (r : Bool) (a b : List ℕ) → (r ≡ true → a ≡ b) × (a ≡ b → r ≡ true) → r ≡ same_bytes a b
 compared true a b told = rw (told.0 refl) (sym (same_self b))
 compared false a b told = by (same_bytes a b) refl

@@ -4,7 +4,6 @@ ghost use Rattle.overlay.specs.Overlay.{part};
 ghost use Rattle.sheet.specs.Refusals.{response_to};
 ghost use Rattle.book.specs.Refusals.{gives};
 
-use check::same;
 use outcome::{Outcome, work_out};
 
 // The bytes of a slot.
@@ -24,7 +23,7 @@ pub(crate) fn is_answer(sheet: &[u8], filed: &[u8]) -> bool
         Outcome::Refused(_) => false,
         Outcome::Answered(answer) => {
             let bytes = answer.encode();
-            same(&bytes, filed)
+            bytes.as_slice() == filed
         }
     }
 }

@@ -1,4 +1,6 @@
 // Reading an entry back.
+#![tactic(auto)]
+
 mod entry;
 
 ghost use Rattle.std.specs.Prelude.{◌≡◌, ◌++◌, length};
@@ -15,9 +17,9 @@ use refusals::{Completion, Refusal};
 
 // Reads an entry into the two lent arrays, after working its sheet out again.
 pub fn read(book: &[u8], entry: u64, sheet: &mut [u8; 24], answer: &mut [u8; 8]) -> Completion
-    ensures answer_after { response_with result (sheet.new ++ answer.new) ≡ reading standard book.now entry }
+    ensures response { response_with result (sheet.new ++ answer.new) ≡ reading standard book.now entry }
     ensures sheet_after { sheet.new ≡ after (reading standard book.now entry) (stored_sheet standard book.now entry) sheet.old }
-    ensures answer_after_2 { answer.new ≡ after (reading standard book.now entry) (stored_answer standard book.now entry) answer.old }
+    ensures answer_after { answer.new ≡ after (reading standard book.now entry) (stored_answer standard book.now entry) answer.old }
 {
     let layout = Layout::standard();
     match layout.examine(book) {
@@ -36,10 +38,10 @@ fn read_in(
     answer: &mut [u8],
 ) -> Completion
     requires sound_book { SoundBook layout book.now sizes }
-    requires sheet_len { (length sheet.old ≡ layout.sheet) × (length answer.old ≡ 8) }
-    ensures answer_after { response_with result (sheet.new ++ answer.new) ≡ reading layout book.now entry }
+    requires lengths { (length sheet.old ≡ layout.sheet) × (length answer.old ≡ 8) }
+    ensures response { response_with result (sheet.new ++ answer.new) ≡ reading layout book.now entry }
     ensures sheet_after { sheet.new ≡ after (reading layout book.now entry) (stored_sheet layout book.now entry) sheet.old }
-    ensures answer_after_2 { answer.new ≡ after (reading layout book.now entry) (stored_answer layout book.now entry) answer.old }
+    ensures answer_after { answer.new ≡ after (reading layout book.now entry) (stored_answer layout book.now entry) answer.old }
 {
     if sizes.count <= entry {
         return Completion::Refused(Refusal::NoSuchEntry);
@@ -48,9 +50,10 @@ fn read_in(
     let answer_offset = layout.answer_offset(sizes.capacity, entry);
     let stored_sheet = slot(book, sheet_offset, layout.sheet);
     let stored_answer = slot(book, answer_offset, 8);
-    if is_answer(stored_sheet, stored_answer) {
-        bytes::copy(stored_sheet, sheet);
-        bytes::copy(stored_answer, answer);
+    let right = is_answer(stored_sheet, stored_answer);
+    if right {
+        sheet.copy_from_slice(stored_sheet);
+        answer.copy_from_slice(stored_answer);
         return Completion::Complete;
     }
     Completion::Refused(Refusal::EntryUnsound)

@@ -1,0 +1,8 @@
+-- A stored entry is worked out again and compared.
+use lib.Pointwise.{bytes_decides}
+use Rattle.book.proofs.Sameness.{compared}
+use Rattle.reading.proofs.entry.is_answer.Goals as goal
+
+pub returns-in-Answered : goal.returns-in-Answered
+returns-in-Answered c =
+    rw (← c.in-Answered.ensures, ← c.encode-bytes.ensures, ← c.as_slice.ensures, c.eq.ensures) (compared _ _ _ (bytes_decides _ _))
