@@ -56,6 +56,7 @@ pub fn kd_read(book: &[u8], entry: u64, sheet: &mut [u8; 24], answer: &mut [u8; 
 }
 
 // The yearly share of an investment.
+#[tactic(auto, using(amortization::proofs::Given::given_exact))]
 pub fn kd_share(rate: u64, years: u64, share: &mut u16) -> u8
     ensures value { result ≡ code (share_response rate years) }
     ensures share_after { share.new ≡ after (share_response rate years) (exact_share rate years) share.old }
