@@ -19,7 +19,8 @@ pub(crate) fn growth(rate: u64, left: u64, rounding: Rounding) -> u64
     requires left_bound { left ≤ 30 }
     ensures { result ≡ growth_growth (rounded_to rounding) rate left }
 {
-    if 0 < left {
+    let more = 0 < left;
+    if more {
         year(growth(rate, left - 1, rounding), rate, rounding)
     } else {
         PRINCIPAL

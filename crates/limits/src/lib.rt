@@ -47,7 +47,8 @@ pub fn loss_limit(service: u64, temperature: Temperature) -> u64
     let row = past / 500;
     let beyond = past % 500;
     let low = 10 * printed(row, service);
-    if service <= 2 {
+    let keeps_row = service <= 2;
+    if keeps_row {
         return low;
     }
     if beyond == 0 {

@@ -31,7 +31,8 @@ pub enum Outcome {
 pub fn work_out(bytes: &[u8]) -> Outcome
     ensures { response result ≡ response_to bytes.now }
 {
-    if bytes.len() != 24 {
+    let wrong = bytes.len() != 24;
+    if wrong {
         return Outcome::Refused(Refusal::SheetLength);
     }
     work_out_sheet(Sheet::decode(bytes))

@@ -66,7 +66,8 @@ pub fn root(k: u64, n: u64, d: u64) -> Bounds
     let v = increment(a, gap, k);
     let lower = a + v;
     let left = gap - v * (2 * a + v) + part % d;
-    if left == 0 {
+    let exact = left == 0;
+    if exact {
         Bounds {
             lower,
             upper: lower,

@@ -30,7 +30,7 @@ pub fn search(prepared: Provision, required: Bounds) -> Choice
     let mut low = 0;
     let mut high = Ladder::count();
     let mut provided = Bounds { lower: 0, upper: 0 };
-    while low < high {
+    'ladder: while low < high {
         let r = next_trial(low, high, likely);
         let tried = prepared.at(Ladder::thickness(r));
         if judge(tried, required).not_insufficient() {

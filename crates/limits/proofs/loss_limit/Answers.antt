@@ -23,11 +23,11 @@ placed service n from to lt = rw (placement.holds n service (nth n) (row_present
 pub returns-then-temperature-lt-FIRST : goal.returns-then-temperature-lt-FIRST
 returns-then-temperature-lt-FIRST c = sym (none_below c.args.service c.args.temperature c.if-temperature-lt-FIRST.true)
 
-pub returns-then-service-le2 : goal.returns-then-service-le2
-returns-then-service-le2 c =
+pub returns-then-keeps_row : goal.returns-then-keeps_row
+returns-then-keeps_row c =
     let at = limit c.args.service c.args.temperature c.if-temperature-lt-FIRST.false c.requires.2 in
     let low = placed c.args.service (past c.args.temperature / 500) c.requires.0 c.requires.1 (omega arith) in
-    rw (at, le-leb c.args.service 2 c.if-service-le2.true, low, c.printed-low.ensures.0)
+    rw (at, le-leb c.args.service 2 (omega arith), low, c.printed-low.ensures.0)
 
 pub returns-then-beyond-eq0 : goal.returns-then-beyond-eq0
 returns-then-beyond-eq0 c =
@@ -42,6 +42,6 @@ returns c =
     let low = placed c.args.service row c.requires.0 c.requires.1 (omega arith) in
     let high = placed c.args.service (suc row) c.requires.0 c.requires.1 (omega arith) in
     let printed_high : c.printed.result ≡ get_or flat_table (place (suc row) c.args.service) 0 = rw (← add-one row) c.printed.ensures.0 in
-    let line = lt-leb c.args.service 2 c.if-service-le2.false in
+    let line = lt-leb c.args.service 2 (omega arith) in
     let beyond = ne_eqb (past c.args.temperature % 500) 0 c.if-beyond-eq0.false in
     rw (at, line, beyond, c.interpolate.ensures, low, high, c.printed-low.ensures.0, printed_high)

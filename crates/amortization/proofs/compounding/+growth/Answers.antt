@@ -9,11 +9,11 @@ year-requires-clause-product_bound t c =
     let fits = year_fits c.args.rounding c.args.rate (c.args.left - 1) c.requires.rate_bound (omega arith) in
     rw c.growth.ensures (omega (arith, fits))
 
-pub returns-then-left-gt0 : goal.returns-then-left-gt0
-returns-then-left-gt0 t c =
+pub returns-then-more : goal.returns-then-more
+returns-then-more t c =
     let round = rounded_to c.args.rounding in
-    c.year.ensures ∙ ap (growth_year round c.args.rate) c.growth.ensures ∙ sym (last_year round c.args.rate c.args.left c.if-left-gt0.true)
+    c.year.ensures ∙ ap (growth_year round c.args.rate) c.growth.ensures ∙ sym (last_year round c.args.rate c.args.left (omega arith))
 
-pub returns-else-left-gt0 : goal.returns-else-left-gt0
+pub returns-else-more : goal.returns-else-more
 unfolding growth_growth
-returns-else-left-gt0 t c = ap (growth_growth (rounded_to c.args.rounding) c.args.rate) {x = 0} {y = c.args.left} (omega arith)
+returns-else-more t c = ap (growth_growth (rounded_to c.args.rounding) c.args.rate) {x = 0} {y = c.args.left} (omega arith)

@@ -16,20 +16,20 @@ tested : (l : Line) (q tried : Bounds) (r : ℕ) (k : Thickness) (v : Verdict) (
     not_insufficient (verdict_of l q r) ≡ b
 tested l q tried r k v b at is told same = sym (same ∙ ap not_insufficient (told ∙ ap (λ (p : Bounds). judged p q) (is ∙ ap (provided l) at)))
 
-pub loop-low-init : goal.loop-low-init
-loop-low-init c =
+pub ladder-init : goal.ladder-init
+ladder-init c =
     let count = c.count-high.ensures in
     (c.likely_rung-likely.ensures, omega arith, omega (arith, first_within (verdict_of c.args.prepared.line c.args.required)), omega arith, λ lt. absurd (omega arith))
 
-pub loop-low-preserved-then-not_insufficient : goal.loop-low-preserved-then-not_insufficient
-loop-low-preserved-then-not_insufficient c =
-    let inv = c.loop-low.invariant in
+pub ladder-preserved-then-not_insufficient : goal.ladder-preserved-then-not_insufficient
+ladder-preserved-then-not_insufficient c =
+    let inv = c.ladder.invariant in
     let meets = tested _ _ _ _ _ _ _ c.thickness.ensures c.at-tried.ensures c.judge.ensures c.if-not_insufficient.ensures in
     (inv.0, omega arith, first_not_above _ c.next_trial-r.result meets, omega arith, λ lt. c.at-tried.ensures ∙ ap (provided c.args.prepared.line) c.thickness.ensures)
 
-pub loop-low-preserved : goal.loop-low-preserved
-loop-low-preserved c =
-    let inv = c.loop-low.invariant in
+pub ladder-preserved : goal.ladder-preserved
+ladder-preserved c =
+    let inv = c.ladder.invariant in
     let misses = insufficient_unless _ (tested _ _ _ _ _ _ _ c.thickness.ensures c.at-tried.ensures c.judge.ensures c.if-not_insufficient.ensures) in
     let verdicts = verdict_of c.args.prepared.line c.args.required in
     let above = first_above verdicts (λ i j le. insufficient_below c.args.prepared.line c.args.required le) c.next_trial-r.result (omega arith) misses in
