@@ -6,9 +6,12 @@ use Rattle.quadrature.specs.Figures.{upper_step}
 use Rattle.annex_tables.proofs.Rule.{passed_first, held_entry}
 use Rattle.annex_tables.proofs.upper.entry.Goals as goal
 
-pub loop-n-init : goal.loop-n-init
+table_ruled : goal.loop-n-init
 unfolding summed upper_step flatten
-loop-n-init c = (omega arith, passed_first tt)
+table_ruled c = (omega arith, passed_first tt)
+
+pub loop-n-init : goal.loop-n-init
+loop-n-init = table_ruled
 
 pub returns : goal.returns
 returns c = held_entry c.loop-n.invariant.1 (omega arith) c.requires.0 c.requires.1
