@@ -2,4 +2,5 @@ pub mod Numbers
 pub mod Range
 pub mod Cases
 pub mod Response
+pub mod Returned
 pub mod Completion
