@@ -18,8 +18,7 @@ pub struct Bounds {
 impl Bounds {
     // Those of a whole number: the number itself on both sides.
     pub fn exact(n: u64) -> Bounds
-        ensures lower { result.lower ≡ n }
-        ensures upper { result.upper ≡ n }
+        ensures { result ≡ record { lower = n; upper = n } }
     {
         Bounds { lower: n, upper: n }
     }
@@ -27,8 +26,7 @@ impl Bounds {
     // Those of a number with the whole part `floor`, which is the number itself where it is whole, and else lies next below it.
     pub fn from_floor(floor: u64, whole: bool) -> Bounds
         requires { (whole ≡ false) → (floor + 1 < 2 ^ 64) }
-        ensures lower { result.lower ≡ floor }
-        ensures upper { result.upper ≡ cond whole floor (floor + 1) }
+        ensures { result ≡ record { lower = floor; upper = cond whole floor (floor + 1) } }
     {
         if whole {
             Bounds::exact(floor)
@@ -47,7 +45,7 @@ impl Add for Bounds {
 
     ghost can_add = { λ p q. (p.lower + q.lower < 2 ^ 64) × (p.upper + q.upper < 2 ^ 64) };
 
-    ghost add_gives = { λ p q r. (r.lower ≡ p.lower + q.lower) × (r.upper ≡ p.upper + q.upper) };
+    ghost add_gives = { λ p q r. r ≡ record { lower = p.lower + q.lower; upper = p.upper + q.upper } };
 
     fn add(self, other: Bounds) -> Bounds {
         Bounds {
@@ -63,7 +61,7 @@ impl Sub for Bounds {
 
     ghost can_sub = { λ p q. (q.lower ≤ p.lower) × (q.upper ≤ p.upper) };
 
-    ghost sub_gives = { λ p q r. (r.lower ≡ p.lower - q.lower) × (r.upper ≡ p.upper - q.upper) };
+    ghost sub_gives = { λ p q r. r ≡ record { lower = p.lower - q.lower; upper = p.upper - q.upper } };
 
     fn sub(self, other: Bounds) -> Bounds {
         Bounds {
