@@ -21,7 +21,7 @@ fn log_by_steps(d: Diameter, e: Diameter) -> Bounds
     log
 }
 
-// The logarithm from 10.0 mm to e: the annex at the nearest whole millimetre, and at most five steps up or down from there.
+// The logarithm from 10.0 mm to e: the annex at the nearest whole millimetre, and at most five steps down or up from there.
 pub fn log_from_10mm(e: Diameter) -> Bounds
     requires { (100 ≤ e.0) × (e.0 ≤ 16000) }
     ensures { result ≡ log_bounds (tenths 100) e }
@@ -29,10 +29,10 @@ pub fn log_from_10mm(e: Diameter) -> Bounds
     let k = (e.0 - 95) / 10;
     let near = Diameter(100 + 10 * k);
     let start = annex_tables::entry(k as usize);
-    if near.0 <= e.0 {
-        start + log_by_steps(near, e)
-    } else {
+    if e.0 < near.0 {
         start - log_by_steps(e, near)
+    } else {
+        start + log_by_steps(near, e)
     }
 }
 
