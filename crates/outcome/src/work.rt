@@ -21,69 +21,63 @@ use requirement::required;
 use sheet::Sheet;
 use verdict::{Choice, judge, search};
 
-#[derive(Clone, Copy)]
-pub enum Outcome {
-    Refused(Refusal),
-    Answered(Answer),
-}
-
 // Works out the sheet that these bytes are.
-pub fn work_out(bytes: &[u8]) -> Outcome
+pub fn work_out(bytes: &[u8]) -> Result<Answer, Refusal>
     ensures { response result ≡ response_to bytes.now }
 {
     let wrong = bytes.len() != 24;
     if wrong {
-        return Outcome::Refused(Refusal::SheetLength);
+        return Err(Refusal::SheetLength);
     }
     work_out_sheet(Sheet::decode(bytes))
 }
 
 // Works out a sheet by its fields: the tests, in the order of the refusals.
-fn work_out_sheet(sheet: Sheet) -> Outcome
+fn work_out_sheet(sheet: Sheet) -> Result<Answer, Refusal>
     ensures { response result ≡ respond (value_cases sheet ++ ladder_cases sheet) (encoded (answer_of sheet (chosen sheet))) }
 {
     if sheet.code_fault().found() {
-        return Outcome::Refused(Refusal::UnknownCode);
+        return Err(Refusal::UnknownCode);
     }
     if sheet.range_fault().found() {
-        return Outcome::Refused(Refusal::OutOfRange);
+        return Err(Refusal::OutOfRange);
     }
     if sheet.zero_fault().found() {
-        return Outcome::Refused(Refusal::NotZero);
+        return Err(Refusal::NotZero);
     }
     let flow = sheet.flow;
     if !flow.beyond(sheet.temperature, sheet.ambient) {
-        return Outcome::Refused(Refusal::NoDrivingDifference);
+        return Err(Refusal::NoDrivingDifference);
     }
     if sheet.invalid_aim() {
-        return Outcome::Refused(Refusal::InvalidAim);
+        return Err(Refusal::InvalidAim);
     }
     search_ladder(sheet)
 }
 
 // Tries the ladder for an admitted sheet.
-fn search_ladder(sheet: Sheet) -> Outcome
+fn search_ladder(sheet: Sheet) -> Result<Answer, Refusal>
     requires { Admitted sheet }
     ensures { response result ≡ respond (ladder_cases sheet) (encoded (answer_of sheet (chosen sheet))) }
 {
     let difference = difference_of(sheet);
     let need = required(sheet.line, difference, goal_of(sheet));
     match search(Provision::of(sheet.line), need) {
-        Choice::AllInsufficient => Outcome::Refused(Refusal::NoneSufficient),
+        Choice::AllInsufficient => Err(Refusal::NoneSufficient),
         Choice::Rung(r, provided) => judge_rung(sheet, difference, need, r, provided),
     }
 }
 
 // Judges the first rung that does not miss: its index is r, and its have `provided`.
-fn judge_rung(sheet: Sheet, difference: u64, need: Bounds, r: u64, provided: Bounds) -> Outcome
+fn judge_rung(sheet: Sheet, difference: u64, need: Bounds, r: u64, provided: Bounds) -> Result<Answer, Refusal>
     requires admitted { Admitted sheet × (difference ≡ sheet_difference sheet) × (need ≡ required_of sheet (goal_of sheet)) }
     requires first_rung { (r ≡ chosen sheet) × (r < rungs) × (provided ≡ provided_by sheet.line (thickness_at r)) }
     ensures { response result ≡ respond (ladder_cases sheet) (encoded (answer_of sheet (chosen sheet))) }
 {
     if judge(provided, need).is_undecided() {
-        return Outcome::Refused(Refusal::TooClose);
+        return Err(Refusal::TooClose);
     }
-    Outcome::Answered(answer_of(sheet, difference, r, provided))
+    Ok(answer_of(sheet, difference, r, provided))
 }
 
 // The answer with the rung of index r, whose have is `provided`.
