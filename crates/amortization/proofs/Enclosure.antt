@@ -7,12 +7,10 @@ use native.Mathlib.Omega.{arith}
 use Rattle.fractions.specs.Fraction.{Fraction, ◌over◌, ◌≼◌, ◌≺◌}
 use Rattle.fractions.specs.Rounding.{floor, ceiling, nearest}
 use Rattle.fractions.proofs.Rounding.{nearest_mono}
-use Rattle.amortization.specs.declared.compounding.Rounding.{Rounding}
-use Rattle.amortization.specs.declared.compounding.Rounding.TheVariants.{Down, Up}
-use Rattle.amortization.specs.Growth.{principal, growth, rounded_growth, rounded_to, exact_growth}
+use Rattle.amortization.specs.Growth.{principal, growth, rounded_growth, exact_growth}
 use Rattle.amortization.specs.Share.{share, share_by, exact_share}
 use Rattle.amortization.specs.Ranges.{InRange}
-use Rattle.amortization.proofs.Growth.{growth_enclosed, simple_interest}
+use Rattle.amortization.proofs.Growth.{growth_enclosed, simple_interest, at_lowest}
 
 -- both sides are i (d + b) (c + a)
 product : (i a b c d : ℕ) → i * (d + b) * a + i * ((d + b) * c) ≡ i * (c + a) * b + i * ((c + a) * d)
@@ -76,7 +74,6 @@ module _ (i n : ℕ) (h : InRange i n) where
       let whole : i * (principal + a) ≡ i * growth floor i n = ap (λ (x : ℕ). i * x) (add-sub_of_le (omega arith)) in
       omega (arith, (div-lt_iff_lt-mul {k = 2 * a} {x = 2 * (i * growth floor i n) + a} {y = 10_001} (omega arith)).1 (omega (arith, mul-le-mul_right a h.rate_most)))
 
--- with either rounding, growth is above 10⁹
-pub grown : (r : Rounding) (i n : ℕ) → 1 ≤ i → 1 ≤ n → principal < growth (rounded_to r) i n
-grown Down = floor_grown
-grown Up = ceiling_grown
+-- with every rounding, growth is above 10⁹
+pub grown : (round : Fraction → ℕ) → ((p : Fraction) → 0 < p.den → floor p ≤ round p) → (i n : ℕ) → 1 ≤ i → 1 ≤ n → principal < growth round i n
+grown round least i n some years = omega (arith, floor_grown i n some years, at_lowest round least i n)

@@ -1,41 +1,76 @@
 // Growth by compound interest.
-ghost use Rattle.std.specs.Prelude.{◌≡◌, ◌+◌, ◌*◌, ◌^◌, ◌≤◌, ◌<◌};
-ghost use Rattle.amortization.specs.Growth.{growth as growth_growth, year as growth_year, rounded_to};
+ghost use Rattle.std.specs.Prelude.{◌≡◌, ℕ, ◌+◌, ◌*◌, ◌^◌, ◌≤◌, ◌<◌};
+ghost use Rattle.fractions.specs.Fraction.{Fraction, ◌over◌};
+ghost use Rattle.fractions.specs.Rounding.{floor, ceiling};
+ghost use Rattle.fractions.proofs.Rounding.{floor_ceiling};
+ghost use Rattle.amortization.specs.Growth.{growth as growth_growth, year as growth_year};
+ghost use Rattle.std.proofs.Common.{rules};
 
 use fractions::quotient;
 
 // What is compounded.
 pub(crate) const PRINCIPAL: u64 = 1_000_000_000;
 
-#[derive(Clone, Copy)]
-pub(crate) enum Rounding {
-    Down,
-    Up,
+// How the growth of a year is rounded: to a whole number between the two next ones.
+pub(crate) trait Rounding {
+    ghost rounded: { Fraction → ℕ };
+
+    fn round(num: u64, den: u64) -> u64
+        requires { 0 < den }
+        ensures { result ≡ rounded (num over den) };
+
+    ghost at_least: { (p : Fraction) → 0 < p.den → floor p ≤ rounded p };
+
+    ghost at_most: { (p : Fraction) → 0 < p.den → rounded p ≤ ceiling p };
+}
+
+pub(crate) struct Down;
+
+impl Rounding for Down {
+    ghost rounded = { floor };
+
+    ghost at_least = { λ p pos. Prim.search rules };
+
+    ghost at_most = { floor_ceiling };
+
+    fn round(num: u64, den: u64) -> u64 {
+        quotient(num, den).lower
+    }
+}
+
+pub(crate) struct Up;
+
+impl Rounding for Up {
+    ghost rounded = { ceiling };
+
+    ghost at_least = { floor_ceiling };
+
+    ghost at_most = { λ p pos. Prim.search rules };
+
+    fn round(num: u64, den: u64) -> u64 {
+        quotient(num, den).upper
+    }
 }
 
 // The growth of the principal with so many years left to compound.
-pub(crate) fn growth(rate: u64, left: u64, rounding: Rounding) -> u64
+pub(crate) fn growth<R: Rounding>(rate: u64, left: u64) -> u64
     requires rate_bound { rate ≤ 3_000 }
     requires left_bound { left ≤ 30 }
-    ensures { result ≡ growth_growth (rounded_to rounding) rate left }
+    ensures { result ≡ growth_growth R.rounded rate left }
 {
     let more = 0 < left;
     if more {
-        year(growth(rate, left - 1, rounding), rate, rounding)
+        year::<R>(growth::<R>(rate, left - 1), rate)
     } else {
         PRINCIPAL
     }
 }
 
 // A growth after one year more.
-fn year(growth: u64, rate: u64, rounding: Rounding) -> u64
+fn year<R: Rounding>(growth: u64, rate: u64) -> u64
     requires rate_bound { rate ≤ 3_000 }
     requires product_bound { growth * (10_000 + rate) < 2 ^ 64 }
-    ensures { result ≡ growth_year (rounded_to rounding) rate growth }
+    ensures { result ≡ growth_year R.rounded rate growth }
 {
-    let grown = quotient(growth * (10_000 + rate), 10_000);
-    match rounding {
-        Rounding::Down => grown.lower,
-        Rounding::Up => grown.upper,
-    }
+    R::round(growth * (10_000 + rate), 10_000)
 }

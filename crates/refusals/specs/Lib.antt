@@ -3,4 +3,3 @@ pub mod Range
 pub mod Cases
 pub mod Response
 pub mod Returned
-pub mod Completion

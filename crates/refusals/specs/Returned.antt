@@ -10,3 +10,7 @@ use Rattle.refusals.specs.declared.Refusal.{Refusal}
 abbrev pub response_of : {A : Type 0} → (A → List ℕ) → Result A Refusal → Response
 response_of values (Err why) = refused (number_of why)
 response_of values (Ok a) = complete (values a)
+
+-- of a call that leaves its bytes in lent arrays
+abbrev pub response_with : Result (Unit {0}) Refusal → List ℕ → Response
+response_with result bytes = response_of (λ _. bytes) result

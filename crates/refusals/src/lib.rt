@@ -31,13 +31,6 @@ pub enum Refusal {
     ShareUndecided = 42,
 }
 
-// What a call that leaves its bytes in lent arrays says.
-#[derive(Clone, Copy)]
-pub enum Completion {
-    Refused(Refusal),
-    Complete,
-}
-
 impl Refusal {
     pub fn number(self) -> u8
         ensures { result ≡ number_of self }
@@ -50,5 +43,5 @@ impl Refusal {
 pub fn outside(value: u64, least: u64, most: u64) -> bool
     ensures { result ≡ range_outside value least most }
 {
-    (value < least) | (most < value)
+    !(least..=most).contains(&value)
 }
