@@ -1,2 +1,2 @@
+pub mod Appended
 pub mod Decimal
-pub mod Pieces
