@@ -36,13 +36,13 @@ pub fn work_out(bytes: &[u8]) -> Result<Answer, Refusal>
 fn work_out_sheet(sheet: Sheet) -> Result<Answer, Refusal>
     ensures { response result ≡ respond (value_cases sheet ++ ladder_cases sheet) (encoded (answer_of sheet (chosen sheet))) }
 {
-    if sheet.code_fault().found() {
+    if sheet.code_fault().is_some() {
         return Err(Refusal::UnknownCode);
     }
-    if sheet.range_fault().found() {
+    if sheet.range_fault().is_some() {
         return Err(Refusal::OutOfRange);
     }
-    if sheet.zero_fault().found() {
+    if sheet.zero_fault().is_some() {
         return Err(Refusal::NotZero);
     }
     let flow = sheet.flow;

@@ -10,7 +10,7 @@ use requirement::EconomyTerms;
 use temperatures::Temperature;
 
 // The kind of goal by its code: 1 and 5 economy, 2 loss, and every other surface.
-#[derive(Clone, Copy)]
+#[derive(Clone, Copy, Debug, PartialEq, Eq)]
 pub enum GoalCode {
     ForEconomy,
     ForLoss,
@@ -21,35 +21,25 @@ impl GoalCode {
     pub(crate) fn of(code: u64) -> GoalCode
         ensures { result ≡ goal_code code }
     {
-        if (code == 1) | (code == 5) {
-            return GoalCode::ForEconomy;
+        match code {
+            1 | 5 => GoalCode::ForEconomy,
+            2 => GoalCode::ForLoss,
+            _ => GoalCode::ForSurface,
         }
-        if code == 2 {
-            return GoalCode::ForLoss;
-        }
-        GoalCode::ForSurface
     }
 
     // Does the goal use the prices, the hours and the yearly share?
     pub(crate) fn uses_economy(self) -> bool
         ensures { result ≡ uses_economy self }
     {
-        match self {
-            Self::ForEconomy => true,
-            Self::ForLoss => false,
-            Self::ForSurface => false,
-        }
+        matches!(self, GoalCode::ForEconomy)
     }
 
     // Does it use the aim?
     pub(crate) fn uses_aim(self) -> bool
         ensures { result ≡ uses_aim self }
     {
-        match self {
-            Self::ForEconomy => false,
-            Self::ForLoss => true,
-            Self::ForSurface => true,
-        }
+        matches!(self, GoalCode::ForLoss | GoalCode::ForSurface)
     }
 }
 
@@ -57,14 +47,15 @@ impl GoalCode {
 fn flow_of(code: u64) -> HeatFlow
     ensures { result ≡ flow_of code }
 {
-    if (code == 4) | (code == 5) {
-        return HeatFlow::Inward;
+    match code {
+        4 | 5 => HeatFlow::Inward,
+        _ => HeatFlow::Outward,
     }
-    HeatFlow::Outward
 }
 
 // The goal's code as it is written and as it is read, the direction of the heat's flow, the service, the insulated line, the temperatures t
-// of the pipe and ta of the air, the economy terms, and the aim as it is written.
+// of the pipe and ta of the air, the economy terms, and the aim as it is written. Any 24 bytes are a sheet, so code and service are numbers:
+// refusal 12 is of a number that is no goal or service.
 #[derive(Clone, Copy)]
 pub struct Sheet {
     pub code: u64,
