@@ -22,5 +22,10 @@ pub fn enter(layout: BookLayout, book: &mut [u8], sizes: Sizes, sheet: &[u8], an
     let bytes = answer.encode();
     put(book, sheet_offset, sheet);
     put(book, answer_offset, &bytes);
-    write_number(book, layout.count_offset(), layout.plain.width, sizes.count + 1);
+    write_number(
+        book,
+        layout.count_offset(),
+        layout.plain.width,
+        sizes.count + 1,
+    );
 }

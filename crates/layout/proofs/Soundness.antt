@@ -1,28 +1,22 @@
 -- Books of which neither 31 nor 32 holds, and what an examination says of a book.
 -- Assumes nothing.
-use mathlib.Core.Path.{◌≡◌, refl, sym}
+use mathlib.Core.Path.{◌≡◌, refl}
 use mathlib.Core.Bool.{false}
-use mathlib.Core.List.{List, [], ◌∷◌, ◌++◌}
+use mathlib.Core.List.{List}
 use Prim.Native.Nat.{ℕ, ◌≤◌}
 use native.Mathlib.Omega.{arith}
 use lib.Dec.{ltb}
 use lib.ListN.{length}
 use borrow.Author.Tests.{ltb-false, le-ltb, eqb-true, eq-eqb, not-false}
 use Rattle.std.proofs.lemmas.Bool.{or_parts}
-use Rattle.refusals.specs.declared.Refusal.{Refusal}
-use Rattle.refusals.specs.Numbers.{number_of}
-use Rattle.refusals.specs.Cases.{Case, NoneHolds}
+use Rattle.refusals.specs.Cases.{NoneHolds}
 use Rattle.refusals.specs.Range.{outside}
-use Rattle.refusals.specs.Response.{refused, respond}
 use Rattle.refusals.proofs.Range.{inside}
-use Rattle.refusals.proofs.Response.{in_front, completed}
 use Rattle.layout.specs.declared.offsets.Layout.{Layout}
 use Rattle.layout.specs.declared.examination.Sizes.{Sizes}
-use Rattle.layout.specs.declared.book.Book.{Book}
 use Rattle.layout.specs.Layout.{header, bytes_for}
 use Rattle.layout.specs.Sizes.{capacity, count}
 use Rattle.layout.specs.Refusals.{wrong_size, book_cases}
-use Rattle.layout.specs.Examination.{examined}
 use Rattle.layout.specs.Usable.{Usable}
 use Rattle.layout.specs.SoundBook.{SoundBook}
 
@@ -46,4 +40,3 @@ module _ (l : Layout) where
         rw (← is.capacity_is, ← is.count_is)
         (let short : ltb (length b) (header l) ≡ false = le-ltb (length b) (header l) (omega arith) in
         rw (short, le-ltb _ _ is.some, le-ltb _ _ is.most, eq-eqb _ _ is.size) (refl, (le-ltb _ _ is.counted, tt)))
-

@@ -15,7 +15,12 @@ use layout::BookLayout;
 use refusals::Refusal;
 
 // Reads an entry into the two lent arrays, after working its sheet out again.
-pub fn read(book: &[u8], entry: u64, sheet: &mut [u8; 24], answer: &mut [u8; 8]) -> Result<(), Refusal>
+pub fn read(
+    book: &[u8],
+    entry: u64,
+    sheet: &mut [u8; 24],
+    answer: &mut [u8; 8],
+) -> Result<(), Refusal>
     ensures response { response_with result (sheet.new ++ answer.new) ≡ reading standard book.now entry }
     ensures sheet_after { sheet.new ≡ after (reading standard book.now entry) (stored_sheet standard book.now entry) sheet.old }
     ensures answer_after { answer.new ≡ after (reading standard book.now entry) (stored_answer standard book.now entry) answer.old }

@@ -1,12 +1,9 @@
 -- The book's refusals, the entry's, and the entry.
-use Rattle.std.proofs.Common.{◌≡◌, refl, sym, ◌∙◌}
+use Rattle.std.proofs.Common.{refl, sym, ◌∙◌}
 use Rattle.std.proofs.lemmas.Result.{err_from_is_err_and}
-use Rattle.refusals.specs.Response.{refused, complete}
 use Rattle.refusals.proofs.Response.{in_front}
 use Rattle.layout.specs.Layout.{standard}
 use Rattle.layout.specs.Refusals.{book_cases}
-use Rattle.book.specs.Book.{stored_sheet, stored_answer}
-use Rattle.book.specs.Refusals.{reading}
 use Rattle.reading.proofs.read.Goals as goal
 
 pub returns-in_err-book : goal.returns-in_err-book
