@@ -4,7 +4,7 @@ ghost use Rattle.fractions.specs.Fraction.{Fraction, ◌over◌};
 ghost use Rattle.fractions.specs.Rounding.{floor, ceiling};
 ghost use Rattle.fractions.proofs.Rounding.{floor_ceiling};
 ghost use Rattle.amortization.specs.Growth.{growth as growth_growth, year as growth_year};
-ghost use Rattle.std.proofs.Common.{rules};
+ghost use Rattle.std.proofs.Common.{le_refl};
 
 use fractions::quotient;
 
@@ -29,7 +29,7 @@ pub(crate) struct Down;
 impl Rounding for Down {
     ghost rounded = { floor };
 
-    ghost at_least = { λ p pos. Prim.search rules };
+    ghost at_least = { λ p _. le_refl (floor p) };
 
     ghost at_most = { floor_ceiling };
 
@@ -45,7 +45,7 @@ impl Rounding for Up {
 
     ghost at_least = { floor_ceiling };
 
-    ghost at_most = { λ p pos. Prim.search rules };
+    ghost at_most = { λ p _. le_refl (ceiling p) };
 
     fn round(num: u64, den: u64) -> u64 {
         quotient(num, den).upper

@@ -8,10 +8,10 @@ pub overflow_mul-rate : goal.overflow_mul-rate
 overflow_mul-rate g c = rw c.growth-growth.ensures (omega (arith, year_fits g.R.Rounding.rounded g.met.R.Rounding.at_most c.args.rate c.args.years c.requires.rate_most c.requires.term_most))
 
 pub overflow_sub-growth : goal.overflow_sub-growth
-overflow_sub-growth g c = rw c.growth-growth.ensures (omega (arith, grown g.R.Rounding.rounded g.met.R.Rounding.at_least c.args.rate c.args.years c.requires.rate_least (omega arith)))
+overflow_sub-growth g c = rw c.growth-growth.ensures (omega (arith, grown c.args.rate c.args.years c.requires.rate_least (omega arith) g.R.Rounding.rounded g.met.R.Rounding.at_least))
 
 pub nearest-requires-clause-den_nonzero : goal.nearest-requires-clause-den_nonzero
-nearest-requires-clause-den_nonzero g c = rw c.growth-growth.ensures (omega (arith, grown g.R.Rounding.rounded g.met.R.Rounding.at_least c.args.rate c.args.years c.requires.rate_least (omega arith)))
+nearest-requires-clause-den_nonzero g c = rw c.growth-growth.ensures (omega (arith, grown c.args.rate c.args.years c.requires.rate_least (omega arith) g.R.Rounding.rounded g.met.R.Rounding.at_least))
 
 pub nearest-requires-clause-den_bound : goal.nearest-requires-clause-den_bound
 nearest-requires-clause-den_bound g c = rw c.growth-growth.ensures (omega (arith, year_fits g.R.Rounding.rounded g.met.R.Rounding.at_most c.args.rate c.args.years c.requires.rate_most c.requires.term_most))
