@@ -20,11 +20,7 @@ fn listed_length(length: usize, failed: bool) -> usize
 }
 
 // Writes the lines of a block of at most 512 sheets, which it puts in the text first.
-fn list<const N: usize>(
-    rt: &impl Print,
-    sheets: &[u8],
-    text: &mut Text<N>,
-) -> Result<(), Failure>
+fn list<const N: usize>(rt: &impl Print, sheets: &[u8], text: &mut Text<N>) -> Result<(), Failure>
     requires { (length sheets.now ≤ 12_288) × (108 * 512 ≤ N) }
     ensures { text.new ≡ lines_of sheets.now }
 {

@@ -93,7 +93,7 @@ fn sum_up(rt: &impl Print, count: u64, failed: u64) -> Result<(), Failure> {
 }
 
 // Runs the vectors of all lines.
-fn run(rt: &impl Print, vectors: &[u8]) -> Result<(), Failure> {
+fn run(rt: &HostRuntime, vectors: &[u8]) -> Result<(), Failure> {
     let mut count = 0;
     let mut failed = 0;
     for line in vectors.split_inclusive(|byte| *byte == b'\n') {
