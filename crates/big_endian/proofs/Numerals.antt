@@ -11,12 +11,16 @@ use Rattle.overlay.specs.Overlay.{part, overlay}
 use Rattle.overlay.proofs.Parts.{part_at}
 use Rattle.big_endian.specs.Bytes.{big_endian, bytes_of}
 
+-- a byte of a part
+pub byte_of_part : (b : List ℕ) (offset n i : ℕ) → i < n → get_or (part b offset n) i 0 ≡ get_or b (offset + i) 0
+byte_of_part b offset n i lt = rw (get_or-take n (drop offset b) i 0 lt) (get_or-drop offset b i 0)
+
 -- a number is read from its own bytes alone
 from_part : (b : List ℕ) (at n k : ℕ) → k ≤ n → big_endian b at k ≡ big_endian (part b at n) 0 k
 unfolding big_endian
 from_part b at n zero le = refl
 from_part b at n (suc k) le =
-    let byte : get_or (part b at n) (0 + k) 0 ≡ get_or b (at + k) 0 = rw (zero-add k, get_or-take n (drop at b) k 0 le) (get_or-drop at b k 0) in
+    let byte : get_or (part b at n) (0 + k) 0 ≡ get_or b (at + k) 0 = rw zero-add (byte_of_part b at n k le) in
     rw byte (ap (λ (x : ℕ). 256 * x + get_or b (at + k) 0) (from_part b at n k (omega arith)))
 
 pub same_number : (b c : List ℕ) (p q n : ℕ) → part b p n ≡ part c q n → big_endian b p n ≡ big_endian c q n

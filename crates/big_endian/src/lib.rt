@@ -19,18 +19,10 @@ pub fn read_number(bytes: &[u8], offset: usize, width: usize) -> u64
     ensures { (result ≡ big_endian bytes.now offset width) × (result < 256 ^ width) }
 {
     let mut n = 0;
-    let mut i = 0;
-    while i < width {
-        n = 256 * n + wide(bytes[offset + i]);
-        i += 1;
+    for byte in &bytes[offset..offset + width] {
+        n = 256 * n + u64::from(*byte);
     }
     n
-}
-
-fn wide(byte: u8) -> u64
-    ensures { (result ≡ byte) × (result < 256) }
-{
-    byte as u64
 }
 
 // Writes n in width bytes from an offset on, the last byte first.
@@ -38,11 +30,9 @@ pub fn write_number(bytes: &mut [u8], offset: usize, width: usize, n: u64)
     requires { offset + width ≤ length bytes.old }
     ensures { bytes.new ≡ overlay bytes.old offset (bytes_of width n) }
 {
-    let mut left = width;
     let mut rest = n;
-    while 0 < left {
-        left -= 1;
-        bytes[offset + left] = (rest % 256) as u8;
-        rest = rest / 256;
+    for i in (0..width).rev() {
+        bytes[offset + i] = (rest % 256) as u8;
+        rest /= 256;
     }
 }
