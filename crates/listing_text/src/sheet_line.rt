@@ -6,7 +6,7 @@ ghost use Rattle.listing_text.specs.Line.{line_number_text, line_of};
 
 use answer_text::{put_answer, put_refusal};
 use big_endian::unsigned;
-use outcome::{Outcome, work_out};
+use outcome::work_out;
 use text::Text;
 
 // Puts the line for a sheet. A line has no more than 108 bytes.
@@ -40,7 +40,7 @@ fn put_response<const N: usize>(text: &mut Text<N>, sheet: &[u8])
     ensures upper_bound { length text.new ≤ length text.old + 86 }
 {
     match work_out(sheet) {
-        Outcome::Refused(why) => put_refusal(text, why),
-        Outcome::Answered(answer) => put_answer(text, &answer.encode()),
+        Ok(answer) => put_answer(text, &answer.encode()),
+        Err(why) => put_refusal(text, why),
     }
 }

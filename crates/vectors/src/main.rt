@@ -3,7 +3,7 @@
 #![tactic(auto)]
 
 use hexadecimal::decode;
-use outcome::{Outcome, work_out};
+use outcome::work_out;
 use streams::{Failure, complain, fill, write};
 use text::Text;
 
@@ -22,12 +22,12 @@ fn writes(text: &[u8], bytes: &[u8]) -> bool {
 // Does the sheet come to what is expected?
 fn comes_to(sheet: &[u8], expected: &[u8]) -> bool {
     match work_out(sheet) {
-        Outcome::Refused(why) => {
+        Ok(answer) => writes(expected, &answer.encode()),
+        Err(why) => {
             let mut text: Text<28> = Text::new();
             answer_text::put_refusal(&mut text, why);
             text.as_slice() == expected
         }
-        Outcome::Answered(answer) => writes(expected, &answer.encode()),
     }
 }
 
