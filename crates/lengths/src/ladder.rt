@@ -4,7 +4,7 @@ ghost use Rattle.lengths.specs.Ladder.{rungs, thickness_at};
 
 use crate::Thickness;
 
-#[derive(Clone, Copy)]
+#[derive(Clone, Copy, Debug, PartialEq, Eq)]
 pub struct Ladder;
 
 impl Ladder {

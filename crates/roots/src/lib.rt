@@ -25,22 +25,14 @@ fn increment(a: u64, gap: u64, limit: u64) -> u64
 fn root_limit(x: u64) -> u64
     ensures { (x < result * result) × (result * result ≤ 2 ^ 64) × (result ≤ 2 ^ 32) }
 {
-    if x < 0x100_0000 {
-        return 0x1000;
+    match x {
+        0..0x100_0000 => 0x1000,
+        0x100_0000..0x1000_0000 => 0x4000,
+        0x1000_0000..0x1_0000_0000 => 0x1_0000,
+        0x1_0000_0000..0x10_0000_0000 => 0x4_0000,
+        0x10_0000_0000..0x100_0000_0000 => 0x10_0000,
+        _ => 0x1_0000_0000,
     }
-    if x < 0x1000_0000 {
-        return 0x4000;
-    }
-    if x < 0x1_0000_0000 {
-        return 0x1_0000;
-    }
-    if x < 0x10_0000_0000 {
-        return 0x4_0000;
-    }
-    if x < 0x100_0000_0000 {
-        return 0x10_0000;
-    }
-    0x1_0000_0000
 }
 
 // The root of x, rounded down.
@@ -67,15 +59,5 @@ pub fn root(k: u64, n: u64, d: u64) -> Bounds
     let lower = a + v;
     let left = gap - v * (2 * a + v) + part % d;
     let exact = left == 0;
-    if exact {
-        Bounds {
-            lower,
-            upper: lower,
-        }
-    } else {
-        Bounds {
-            lower,
-            upper: lower + 1,
-        }
-    }
+    Bounds::from_floor(lower, exact)
 }

@@ -7,4 +7,4 @@ use Rattle.provision.proofs.film.Goals as goal
 
 pub returns : goal.returns
 unfolding film film_bounds
-returns c = c.quotient.ensures ∙ ap (λ (x : ℕ). rounded ((x * 10 ^ 7) over c.args.line.coefficient)) c.multiplied_conductivity.ensures.0
+returns c = c.quotient.ensures ∙ ap (λ (x : ℕ). rounded ((x * 10 ^ 7) over c.args.line.line.coefficient)) c.multiplied_conductivity.ensures.0

@@ -14,4 +14,4 @@ pub returns-in-Surface : goal.returns-in-Surface
 unfolding requirement enclosing
 returns-in-Surface c =
     rw c.in-Surface.is
-    (c.quotient-in-Surface.ensures ∙ ap (λ (x : ℕ). rounded ((x * 10 ^ 7) over (c.args.line.coefficient * c.in-Surface.s))) c.conduction-in-Surface.ensures.0)
+    (c.quotient-in-Surface.ensures ∙ ap (λ (x : ℕ). rounded ((x * 10 ^ 7) over (c.args.at.line.line.coefficient * c.in-Surface.s))) c.conduction-in-Surface.ensures.0)
