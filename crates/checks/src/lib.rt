@@ -11,7 +11,6 @@ ghost use Rattle.sheet.specs.Sheet.{difference as sheet_difference};
 ghost use Rattle.sheet.specs.Answer.{loss_check, surface_check, surface_difference, surface_bound};
 ghost use Rattle.sheet.specs.Admitted.{Admitted};
 
-use answer::LossCheck;
 use fractions::{Bounds, quotient};
 pub use goal::{difference_of, goal_of};
 use limits::{loss_limit, surface_limit};
@@ -22,18 +21,13 @@ use temperatures::Temperature;
 use verdict::{Verdict, judge};
 
 // The loss check of a thickness whose have is `provided`. Here and below Δ is at hand.
-pub fn loss_check(sheet: Sheet, difference: u64, provided: Bounds) -> LossCheck
+pub fn loss_check(sheet: Sheet, difference: u64, provided: Bounds) -> Option<Verdict>
     requires { Admitted sheet × (difference ≡ sheet_difference sheet) }
     ensures { result ≡ loss_check sheet provided }
 {
-    let limit = loss_limit(sheet.service, sheet.temperature);
-    if limit == 0 {
-        return LossCheck::NonePrinted;
-    }
-    LossCheck::Judged(judge(
-        provided,
-        required(sheet.line, difference, Goal::Loss(limit)),
-    ))
+    let limit = loss_limit(sheet.service, sheet.temperature)?;
+    let need = required(sheet.line, difference, Goal::Loss(limit));
+    Some(judge(provided, need))
 }
 
 // Its surface check.

@@ -13,21 +13,14 @@ use line::{CheckedLine, Shape};
 pub fn likely_rung(line: CheckedLine, film: Bounds, required: Bounds) -> u64
     ensures { result ≤ rungs }
 {
-    if required.lower <= film.upper {
-        return 0;
-    }
     // what the insulation has to provide, in micrometres
-    let rest = (required.lower - film.upper) / 1000;
+    let rest = required.lower.saturating_sub(film.upper) / 1000;
     // no rung provides 4 m
     if 4_000_000 <= rest {
         return Ladder::count();
     }
     let rung = (likely_thickness(line, rest) + 5_000) / 10_000;
-    if rung < Ladder::count() {
-        rung
-    } else {
-        Ladder::count()
-    }
+    rung.min(Ladder::count())
 }
 
 // About the thickness at which insulation provides `rest`, both in micrometres.
