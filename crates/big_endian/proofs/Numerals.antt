@@ -4,6 +4,7 @@ use mathlib.Core.Path.{◌≡◌, refl, sym, ap, ◌∙◌}
 use mathlib.Core.List.{List}
 use Prim.Native.Nat.{ℕ, zero, suc, ◌+◌, ◌*◌, ◌/◌, ◌%◌, ◌^◌, ◌≤◌, ◌<◌}
 use native.Mathlib.Nat.{pow-suc, pow-le-pow_right, div-one, add-zero, add-suc, zero-add, le_refl, div-eq_of_lt, div-div-eq-div-mul, div-add-mod'}
+use native.Mathlib.Numerals.{add-one}
 use native.Mathlib.Omega.{arith}
 use lib.ListN.{length, get_or, drop, replicate, get_or-replicate}
 use lib.Seq.{get_or-take, get_or-drop, take_all}
@@ -70,3 +71,6 @@ number_zeros size at (suc n) within =
 -- a number below a power of 256 with an exponent of at most 3
 pub below_power : (i n : ℕ) → i < 4 → n < 256 ^ i → n < 16_777_216
 below_power i n lt below = omega (arith, pow-le-pow_right {n = 256} (omega arith) {i = i} {j = 3} (omega arith))
+
+-- what a search takes for numbers in bytes
+pub ruleset numbers = (below_power, byte_of_part, add-one, pow-suc)

@@ -14,6 +14,7 @@ pub fn unsigned(bytes: &[u8], offset: usize) -> u64
 }
 
 // The number in width bytes from an offset on.
+#[tactic(auto, using(crate::proofs::Numerals::numbers), unfolding(crate::specs::Bytes::big_endian))]
 pub fn read_number(bytes: &[u8], offset: usize, width: usize) -> u64
     requires { (width ≤ 4) × (offset + width ≤ length bytes.now) }
     ensures { (result ≡ big_endian bytes.now offset width) × (result < 256 ^ width) }
@@ -26,6 +27,7 @@ pub fn read_number(bytes: &[u8], offset: usize, width: usize) -> u64
 }
 
 // Writes n in width bytes from an offset on, the last byte first.
+#[tactic(auto, using(overlay::proofs::Overlay::nothing), unfolding(crate::specs::Bytes::bytes_of))]
 pub fn write_number(bytes: &mut [u8], offset: usize, width: usize, n: u64)
     requires { offset + width ≤ length bytes.old }
     ensures { bytes.new ≡ overlay bytes.old offset (bytes_of width n) }

@@ -49,3 +49,6 @@ step bytes (high ∷ low ∷ x ∷ more) rest two = absurd (omega arith)
 pub pairs-step : {all : List ℕ} {o : Option ℕ} (bytes digits rest : List ℕ) → all ≡ digits ++ rest → length digits ≡ 2 →
     o ≡ byte_of (digit_of (get_or digits 0 0)) (digit_of (get_or digits 1 0)) → pairs bytes all ≡ option_and_then (λ b. pairs (bytes ++ b ∷ []) rest) o
 pairs-step bytes digits rest parts two is = rw (parts, is) (step bytes digits rest two)
+
+-- what a search takes for the bytes of a text
+pub ruleset laws = (bytes_of-odd, bytes_of-long, bytes_of-short, pairs-end, pairs-step)

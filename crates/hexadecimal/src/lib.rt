@@ -32,6 +32,7 @@ fn pair(high: u8, low: u8) -> Option<u8>
 }
 
 // The bytes that a text writes, 64 at the most.
+#[tactic(auto, using(crate::proofs::Pairs::laws))]
 pub fn decode(text: &[u8]) -> Option<Text<64>>
     ensures { result ≡ bytes_of text.now }
 {

@@ -46,6 +46,7 @@ impl<const N: usize> Text<N> {
     }
 
     // Puts a piece at the end.
+    #[tactic(auto, using(crate::proofs::Appended::appended))]
     pub fn put(&mut self, piece: &[u8])
         requires { length self.old + length piece.now ≤ N }
         ensures { self.new ≡ self.old ++ piece.now }
@@ -54,6 +55,7 @@ impl<const N: usize> Text<N> {
     }
 
     // Puts n in decimal digits, of which a u64 has 20 at the most.
+    #[tactic(auto, using(crate::proofs::Decimal::fewest))]
     pub fn put_decimal(&mut self, n: u64)
         requires { length self.old + 20 ≤ N }
         ensures written { self.new ≡ self.old ++ decimal n }

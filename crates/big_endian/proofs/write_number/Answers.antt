@@ -1,17 +1,9 @@
-use Rattle.std.proofs.Common.{◌≡◌, ℕ, suc, ◌+◌, ◌-◌, ◌%◌, ◌^◌, sym, arith}
-use native.Mathlib.Nat.{pow-suc, sub_self, div-div-eq-div-mul, div-one}
-use Rattle.overlay.proofs.Overlay.{nothing, overlay_first}
+use Rattle.std.proofs.Common.{◌≡◌, ℕ, suc, ◌+◌, ◌-◌, ◌%◌, ◌^◌, arith}
+use native.Mathlib.Nat.{pow-suc, div-div-eq-div-mul}
+use Rattle.overlay.proofs.Overlay.{overlay_first}
 use Rattle.big_endian.specs.Bytes.{bytes_of}
 use Rattle.big_endian.proofs.Numerals.{length_bytes}
 use Rattle.big_endian.proofs.write_number.Goals as goal
-
-pub loop-i-init : goal.loop-i-init
-unfolding bytes_of
-loop-i-init c = rw (sub_self c.args.width) record {
-  left = omega arith;
-  written = (nothing c.args.bytes.now (c.args.offset + c.args.width)).bytes;
-  rest = sym (div-one c.args.n);
-}
 
 pub loop-i-preserved : goal.loop-i-preserved
 unfolding bytes_of
