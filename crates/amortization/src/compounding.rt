@@ -1,9 +1,9 @@
 // Growth by compound interest.
-ghost use Rattle.std.specs.Prelude.{◌≡◌, ℕ, ◌+◌, ◌*◌, ◌^◌, ◌≤◌, ◌<◌};
+ghost use Rattle.std.specs.Prelude.{◌≡◌, ℕ, ◌≤◌, ◌<◌};
 ghost use Rattle.fractions.specs.Fraction.{Fraction, ◌over◌};
 ghost use Rattle.fractions.specs.Rounding.{floor, ceiling};
 ghost use Rattle.fractions.proofs.Rounding.{floor_ceiling};
-ghost use Rattle.amortization.specs.Growth.{growth as growth_growth, year as growth_year};
+ghost use Rattle.amortization.specs.Growth.{growth as growth_growth};
 ghost use Rattle.std.proofs.Common.{le_refl};
 
 use fractions::quotient;
@@ -60,17 +60,9 @@ pub(crate) fn growth<R: Rounding>(rate: u64, left: u64) -> u64
 {
     let more = 0 < left;
     if more {
-        year::<R>(growth::<R>(rate, left - 1), rate)
+        let before = growth::<R>(rate, left - 1);
+        R::round(before * (10_000 + rate), 10_000)
     } else {
         PRINCIPAL
     }
-}
-
-// A growth after one year more.
-fn year<R: Rounding>(growth: u64, rate: u64) -> u64
-    requires rate_bound { rate ≤ 3_000 }
-    requires product_bound { growth * (10_000 + rate) < 2 ^ 64 }
-    ensures { result ≡ growth_year R.rounded rate growth }
-{
-    R::round(growth * (10_000 + rate), 10_000)
 }
