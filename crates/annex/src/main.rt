@@ -21,6 +21,7 @@ fn put_line<const N: usize>(text: &mut Text<N>, mm: u64, figures: Bounds)
 }
 
 // Puts the lines of all entries.
+#[tactic(auto, using(text::proofs::Concatenated::concatenations))]
 fn put_figures<const N: usize>(text: &mut Text<N>)
     requires { length text.old + 63 * entries ≤ N }
     ensures written { text.new ≡ text.old ++ concatenated entry_line entries }
@@ -32,6 +33,7 @@ fn put_figures<const N: usize>(text: &mut Text<N>)
 }
 
 // Puts the loss limits on one line.
+#[tactic(auto, using(text::proofs::Concatenated::concatenations))]
 fn put_limits<const N: usize>(text: &mut Text<N>)
     requires { length text.old + 26 * 21 ≤ N }
     ensures { text.new ≡ text.old ++ limits_line }

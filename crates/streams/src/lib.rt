@@ -5,8 +5,7 @@ ghost use Rattle.std.specs.Prelude.{◌≡◌, ◌+◌, ◌<◌, ◌≤◌, leng
 ghost use Rattle.std.specs.Io.KnownBytes.{Consumes, Keeps, IsAtEnd};
 ghost use Rattle.streams.specs.declared.Failure.TheVariants.{Write};
 
-use std::fmt;
-use std::io;
+use std::{fmt, io};
 
 // Why a program stops.
 #[derive(Clone, Copy)]
@@ -25,6 +24,7 @@ impl fmt::Display for Failure {
 }
 
 // Reads until the block is full, the input ends or a read fails. Returns how many bytes that brought, and whether no read failed.
+#[tactic(auto, using(crate::proofs::Consumed::more))]
 pub fn fill<R: io::Read>(reader: &mut R, block: &mut [u8]) -> (usize, Result<(), Failure>)
     ensures within { result.0 ≤ length block.new }
     ensures size { length block.new ≡ length block.old }
