@@ -10,4 +10,4 @@ pub returns : goal.returns
 unfolding film
 returns c =
     let a = c.args in
-    rw (upper_of c.quotient.ensures) (ap (λ (n : ℕ). ceiling (n over (a.line.coefficient * a.lower))) (omega (arith, c.conduction.ensures.0)))
+    rw (upper_of c.quotient.ensures) (ap (λ (n : ℕ). ceiling (n over (a.at.line.line.coefficient * a.lower))) (omega (arith, c.conduction.ensures.0)))

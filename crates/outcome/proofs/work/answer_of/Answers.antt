@@ -7,15 +7,14 @@ use Rattle.outcome.proofs.work.answer_of.Goals as goal
 
 pub surface_bound-requires : goal.surface_bound-requires
 surface_bound-requires c =
-    let admitted = c.requires.0 in
-    let size = rw (← c.requires.2) at (provided_size c.args.sheet.line (thickness_at c.args.r) admitted.line admitted.conductivity_from (omega arith)) in
-    (admitted, c.requires.1, size.0, size.1)
+    let admitted = c.args.sheet.admitted in
+    rw (← c.requires.1) at (provided_size c.args.sheet.sheet.line (thickness_at c.args.rung.index) admitted.line admitted.conductivity_from (omega arith))
 
 pub returns : goal.returns
 unfolding answer_of
 returns c =
-    let s = c.args.sheet in
-    let provided = c.requires.2 in
+    let s = c.args.sheet.sheet in
+    let provided = c.requires.1 in
     let loss = c.loss_check.ensures ∙ ap (loss_check s) provided in
     let surface = c.surface_check.ensures ∙ ap (surface_check s) provided in
     let bound = c.surface_bound.ensures ∙ ap (surface_bound s) provided in
