@@ -8,7 +8,7 @@ ghost use Rattle.streams.specs.declared.Failure.TheVariants.{Write};
 use std::{fmt, io};
 
 // Why a program stops.
-#[derive(Clone, Copy)]
+#[derive(Clone, Copy, Debug, PartialEq, Eq)]
 pub enum Failure {
     Read,
     Write,
