@@ -37,10 +37,7 @@ pub fn decode(text: &[u8]) -> Option<Text<64>>
     ensures { result ≡ bytes_of text.now }
 {
     let odd = text.len() % 2 == 1;
-    if odd {
-        return None;
-    }
-    if text.len() > 128 {
+    if odd || text.len() > 128 {
         return None;
     }
     let mut bytes = Text::new();

@@ -1,6 +1,7 @@
 -- Bytes that reads bring into a block, one read after the other.
 -- Assumes nothing.
-use Rattle.std.proofs.Common.{◌≡◌, ℕ, ◌+◌, List, ◌++◌, Option, Some, None, Result, Ok, Err, IfOk, length, take, drop, sym, ap, ◌∙◌, subst, append_assoc, drop_at}
+use Rattle.std.proofs.Common.{◌≡◌, ℕ, ◌+◌, List, ◌++◌, Option, Some, None, Result, Ok, Err, IfOk, length, take, drop, sym, ap, ◌∙◌, subst, append_assoc, drop_at, length-take-le}
+use borrow.Rule.Slice.PartMut.{take_put}
 use lib.Seq.{take-append-le}
 use Rattle.std.proofs.Math.Seq.{take-add}
 use Rattle.std.specs.Io.{ReadsAtMost}
@@ -23,3 +24,6 @@ in_place a b (Err e) front part rest offset size fits read = tt
 pub more : (a b c : Option (List ℕ)) (old new : List ℕ) (f n : ℕ) → take f new ≡ take f old → Consumes a b (take f old) → Consumes b c (take n (drop f new)) → Consumes a c (take (f + n) new)
 more a b c old new f n front first second =
     subst (Consumes a c) (sym (take-add f n new ∙ ap (λ (l : List ℕ). l ++ take n (drop f new)) front)) (both a b c (take f old) (take n (drop f new)) first second)
+
+-- what a search takes for a read into a part
+pub ruleset part_read = (take_put, in_place, length-take-le)

@@ -8,7 +8,7 @@ ghost use Rattle.streams.specs.declared.Failure.TheVariants.{Write};
 use std::{fmt, io};
 
 // Why a program stops.
-#[derive(Clone, Copy)]
+#[derive(Clone, Copy, Debug, PartialEq, Eq)]
 pub enum Failure {
     Read,
     Write,
@@ -43,6 +43,7 @@ pub fn fill<R: io::Read>(reader: &mut R, block: &mut [u8]) -> (usize, Result<(),
 }
 
 // One read into a block, from an offset on.
+#[tactic(auto, using(crate::proofs::Consumed::part_read))]
 fn read_from<R: io::Read>(reader: &mut R, block: &mut [u8], offset: usize) -> io::Result<usize>
     requires { offset < length block.old }
     ensures size { length block.new ≡ length block.old }

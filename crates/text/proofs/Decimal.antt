@@ -1,4 +1,4 @@
--- The fewest digits that hold a number are its decimal digits, and a u64 has 20 at the most.
+-- The fewest digits that hold a number are its decimal digits.
 -- Assumes nothing.
 use mathlib.Core.Path.{◌≡◌, refl, ap}
 use mathlib.Core.List.{List, [], ◌∷◌, ◌++◌}
