@@ -72,6 +72,7 @@ impl Sub for Bounds {
 }
 
 // num / den rounded down and rounded up, by one division.
+#[tactic(auto, using(crate::proofs::Rounding::ceiling_by_parts))]
 pub fn quotient(num: u64, den: u64) -> Bounds
     requires { 0 < den }
     ensures { result ≡ rounded (num over den) }

@@ -38,6 +38,7 @@ impl Provision {
 
     // Under-have and over-have: what a thickness provides, rounded down and rounded up. The range of a thickness is asked for here and
     // below: a struct of one number, it has no place for a fact.
+    #[tactic(auto, using(crate::proofs::Sizes::film_small), unfolding(crate::specs::Provided::provided))]
     pub fn at(self, k: Thickness) -> Bounds
         requires { k.0 ≤ 300 }
         ensures { result ≡ provided self.line.line k }
@@ -57,6 +58,7 @@ fn inner_log(line: CheckedLine) -> Bounds
 }
 
 // What the surface film provides.
+#[tactic(auto, unfolding(crate::specs::Provided::film, crate::specs::Provided::film_bounds))]
 fn film(line: CheckedLine) -> Bounds
     ensures { result ≡ film_bounds line.line }
 {
@@ -92,6 +94,7 @@ fn cylinder_insulation(inner: Bounds, d: Diameter, k: Thickness) -> Bounds
 }
 
 // What it provides on a flat wall, whatever its diameter.
+#[tactic(auto, unfolding(crate::specs::Provided::insulation, crate::specs::Provided::insulation_bounds))]
 fn flat_insulation(k: Thickness) -> Bounds
     requires { k.0 ≤ 300 }
     ensures { ((D : Diameter) → result ≡ insulation_bounds Flat D k) × (result.lower ≤ 2 ^ 62) × (result.upper ≤ 2 ^ 62) }

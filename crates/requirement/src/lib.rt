@@ -29,6 +29,7 @@ pub enum Goal {
 }
 
 // Low and high need: what a goal requires of a line at its temperature difference, rounded down and rounded up.
+#[tactic(auto, unfolding(crate::specs::Required::requirement, crate::specs::Required::enclosing))]
 pub fn required(at: OperatingLine, goal: Goal) -> Bounds
     requires { GoalInRange goal }
     ensures { result ≡ enclosing (requirement at.line.line at.difference goal) }
@@ -40,6 +41,7 @@ pub fn required(at: OperatingLine, goal: Goal) -> Bounds
     }
 }
 
+#[tactic(auto, using(crate::proofs::Sizes::economy_sizes))]
 fn economy(at: OperatingLine, terms: EconomyTerms) -> Bounds
     requires { EconomyInRange terms }
     ensures { result ≡ enclosing (requirement at.line.line at.difference (Economy terms)) }

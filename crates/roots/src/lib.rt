@@ -9,6 +9,7 @@ use fractions::Bounds;
 
 // The largest v with (a + v)² at most a² + gap; it is below limit. Newton's rule from above: as long as (a + v)² is too much, v falls by
 // what is too much over 2 (a + v), rounded up.
+#[tactic(auto, using(crate::proofs::Squares::newton_step))]
 fn increment(a: u64, gap: u64, limit: u64) -> u64
     requires { (gap < limit * (2 * a + limit)) × (limit * (2 * a + limit) ≤ 2 ^ 64) × (a < 2 ^ 62) × (limit < 2 ^ 62) }
     ensures { (result * (2 * a + result) ≤ gap) × (gap < (result + 1) * (2 * a + (result + 1))) × (result < limit) }

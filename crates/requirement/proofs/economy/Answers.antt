@@ -4,19 +4,7 @@ use Rattle.fractions.specs.Fraction.{◌over◌}
 use Rattle.roots.specs.Root.{root_bounds}
 use Rattle.line.specs.Line.{shape_of}
 use Rattle.requirement.specs.Required.{economy_factor, requirement, enclosing}
-use Rattle.requirement.proofs.Sizes.{economy_sizes}
 use Rattle.requirement.proofs.economy.Goals as goal
-
-pub overflow_mul-numerator-3 : goal.overflow_mul-numerator-3
-overflow_mul-numerator-3 c = omega (arith, economy_sizes c.args.at.line.line c.args.at.difference c.args.terms c.args.at.line.in_range c.args.at.difference_to c.requires)
-
-pub overflow_mul-numerator-4 : goal.overflow_mul-numerator-4
-overflow_mul-numerator-4 c = omega (arith, economy_sizes c.args.at.line.line c.args.at.difference c.args.terms c.args.at.line.in_range c.args.at.difference_to c.requires)
-
-pub root-requires : goal.root-requires
-root-requires c =
-    let sizes = economy_sizes c.args.at.line.line c.args.at.difference c.args.terms c.args.at.line.in_range c.args.at.difference_to c.requires in
-    (omega arith, omega arith, omega (arith, sizes), omega (arith, sizes), omega (arith, sizes))
 
 pub returns : goal.returns
 unfolding requirement enclosing
