@@ -1,12 +1,13 @@
--- The fewest digits that hold a number are its decimal digits.
+-- The fewest digits that hold a number are its decimal digits, and a u64 has 20 at the most.
 -- Assumes nothing.
 use mathlib.Core.Path.{◌≡◌, refl, ap}
 use mathlib.Core.List.{List, [], ◌∷◌, ◌++◌}
 use Prim.Native.Nat.{ℕ, zero, suc, ◌+◌, ◌-◌, ◌/◌, ◌%◌, ◌^◌, ◌≤◌, ◌<◌}
 use native.Mathlib.Omega.{arith}
-use native.Mathlib.Nat.{mod-eq_of_lt}
+use native.Mathlib.Nat.{mod-eq_of_lt, pow-le-pow_right}
 use borrow.Author.Tests.{lt-ltb, le-ltb}
 use Rattle.io.specs.Digits.{last_digits, IsDigitCount}
+use Rattle.overlay.specs.Overlay.{Written}
 use Rattle.text.specs.Text.{decimal_up_to, decimal}
 
 one_digit : (f n : ℕ) → n < 10 → decimal_up_to f n ≡ (48 + n) ∷ []
@@ -28,3 +29,13 @@ fewest n zero few = absurd (omega arith)
 fewest n (suc k) few =
     let count : suc k - 1 ≡ k = omega arith in
     spelt k n n few.1 (λ some. rw count at (few.2 (omega arith))) (omega arith)
+
+-- what `io::decimal` ensures of its digits
+pub in_decimal : {b v c : List ℕ} {offset n k e : ℕ} → Written b offset v c e → v ≡ last_digits 10 k n → IsDigitCount 10 1 n k → Written b offset (decimal n) c e
+in_decimal {n = n} {k} written is few = rw (is, fewest n k few) at written
+
+-- a u64 has 20 digits at the most
+pub at_most_20 : {n k : ℕ} → IsDigitCount 10 1 n k → n < 2 ^ 64 → k ≤ 20
+at_most_20 {n} {k} few lt =
+    let no_more : 20 < k → ⊥ = λ over. omega (arith, few.2 (omega arith), pow-le-pow_right {n = 10} (omega arith) {i = 20} {j = k - 1} (omega arith)) in
+    omega arith
