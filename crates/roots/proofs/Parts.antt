@@ -26,14 +26,14 @@ rounded a d r s t pos e short rest =
       upper =
           cond_both (eqb (s + t) 0) r (r + 1) (λ n. n ≡ ceiling_root (a over d))
           (λ whole.
-              let none : s + t ≡ 0 = eqb→eq (s + t) 0 (rw whole tt) in
-              let no_s : s ≡ 0 = omega arith in
-              let square : a ≡ r * r * d = omega (arith, ap (λ x. x * d) no_s) in
-              ceiling_root_is (a over d) pos r (omega arith) (λ x lt. omega (arith, mul-le-mul_right d (mul-le-mul lt lt))))
+          let none : s + t ≡ 0 = eqb→eq (s + t) 0 (rw whole tt) in
+          let no_s : s ≡ 0 = omega arith in
+          let square : a ≡ r * r * d = omega (arith, ap (λ x. x * d) no_s) in
+          ceiling_root_is (a over d) pos r (omega arith) (λ x lt. omega (arith, mul-le-mul_right d (mul-le-mul lt lt))))
           (λ more.
-              let some : ¬ (s + t ≡ 0) = eqb-false (s + t) 0 more in
-              let below : r * r * d < a = omega (arith, le-mul_of_pos_right s pos) in
-              ceiling_root_is (a over d) pos (r + 1) (omega arith) (λ x lt. omega (arith, square_le {x = x} {y = r} d (omega arith))));
+          let some : ¬ (s + t ≡ 0) = eqb-false (s + t) 0 more in
+          let below : r * r * d < a = omega (arith, le-mul_of_pos_right s pos) in
+          ceiling_root_is (a over d) pos (r + 1) (omega arith) (λ x lt. omega (arith, square_le {x = x} {y = r} d (omega arith))));
     }
 
 -- what the square of k u lacks of k² n / d
