@@ -19,6 +19,7 @@ use verdict::{Verdict, judge};
 // Of a thickness whose have is `provided`.
 impl AdmittedSheet {
     // The loss check, where a limit is printed.
+    #[tactic(auto, unfolding(sheet::specs::Answer::loss_check))]
     pub fn loss_check(self, provided: Bounds) -> Option<Verdict>
         ensures { result ≡ loss_check self.sheet provided }
     {
@@ -26,6 +27,7 @@ impl AdmittedSheet {
         Some(judge(provided, required(self.at, Goal::Loss(limit))))
     }
 
+    #[tactic(auto, unfolding(sheet::specs::Answer::surface_check))]
     pub fn surface_check(self, provided: Bounds) -> Verdict
         ensures { result ≡ surface_check self.sheet provided }
     {
@@ -38,6 +40,7 @@ impl AdmittedSheet {
     }
 
     // The temperature that the surface does not lie beyond, as seen from the air.
+    #[tactic(auto, unfolding(sheet::specs::Answer::surface_bound))]
     pub fn surface_bound(self, provided: Bounds) -> Temperature
         requires { (1 ≤ provided.lower) × (provided.lower ≤ 2 ^ 40) }
         ensures { result ≡ surface_bound self.sheet provided }
@@ -52,6 +55,7 @@ impl AdmittedSheet {
 
 // How far the surface lies beyond the air at the most: 2LΔ × 10⁷ / (α × under-have), and on a flat wall LΔ × 10⁷ / (α × under-have),
 // rounded up.
+#[tactic(auto, unfolding(provision::specs::Provided::film))]
 fn surface_difference(at: OperatingLine, lower: u64) -> u64
     requires { (1 ≤ lower) × (lower ≤ 2 ^ 40) }
     ensures { result ≡ ceiling (surface_difference at.line.line at.difference (lower over 1)) }

@@ -75,6 +75,7 @@ fn search_ladder(sheet: AdmittedSheet) -> Result<Answer, Refusal>
 }
 
 // The answer with a rung.
+#[tactic(auto, using(provision::proofs::Sizes::provided_size), unfolding(sheet::specs::Answer::answer_of))]
 fn answer_of(sheet: AdmittedSheet, rung: Rung) -> Answer
     requires { (rung.index < rungs) × (rung.provided ≡ provided sheet.sheet.line (thickness_at rung.index)) }
     ensures { result ≡ answer_of sheet.sheet rung.index }

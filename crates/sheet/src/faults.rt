@@ -86,6 +86,7 @@ impl Sheet {
     }
 
     // An aim that the goal does not use and that is not zero.
+    #[tactic(auto, unfolding(crate::specs::Fields::first_fault))]
     fn aim_fault(self) -> Option<u64>
         ensures { result ≡ first_fault 14 (aim_fields (uses_aim self.goal) self) }
     {

@@ -70,6 +70,7 @@ pub struct Sheet {
 }
 
 impl Sheet {
+    #[tactic(auto, unfolding(crate::specs::Sheet::decoded))]
     pub fn decode(bytes: &[u8]) -> Sheet
         requires { length bytes.now ≡ 24 }
         ensures { result ≡ decoded bytes.now }
