@@ -32,7 +32,7 @@ impl AdmittedSheet {
         ensures { result ≡ surface_check self.sheet provided }
     {
         let limit = surface_limit(self.sheet.ambient);
-        if self.sheet.temperature.0 <= limit.0 {
+        if self.sheet.temperature <= limit {
             return Verdict::Sufficient;
         }
         let goal = Goal::Surface((limit.0 - self.sheet.ambient.0) as u64);

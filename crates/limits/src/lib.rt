@@ -9,7 +9,8 @@ ghost use Rattle.limits.specs.Printed.{printed};
 
 use temperatures::Temperature;
 
-// The limits in W/m², row by row from 50 °C to 650 °C, year-round before seasonal; 0 where none is printed.
+// The limits in W/m², row by row from 50 °C to 650 °C, year-round before seasonal; 0 where none is printed, since 02 asks for one flat list of
+// 26 numbers.
 const LIMITS: [u64; 26] = [
     58, 116, // 50 °C
     93, 163, // 100 °C
