@@ -7,6 +7,7 @@ ghost use Rattle.text.specs.Text.{concatenated};
 ghost use Rattle.annex.specs.Page.{line, entry_line, limits_line, page};
 
 use fractions::Bounds;
+use streams::{complain, write};
 use text::Text;
 
 // Puts the line of a whole millimetre.
@@ -36,11 +37,12 @@ fn put_figures<const N: usize>(text: &mut Text<N>)
 #[tactic(auto, using(text::proofs::Concatenated::concatenations))]
 fn put_limits<const N: usize>(text: &mut Text<N>)
     requires { length text.old + 26 * 21 ≤ N }
-    ensures { text.new ≡ text.old ++ limits_line }
+    ensures written { text.new ≡ text.old ++ limits_line }
+    ensures upper_bound { length text.new ≤ length text.old + 26 * 21 }
 {
     let table = limits::flat_table();
-    for k in 0..25 {
-        text.put_decimal_and(table[k], b' ');
+    for limit in &table[..25] {
+        text.put_decimal_and(*limit, b' ');
     }
     text.put_decimal_and(table[25], b'\n');
 }
@@ -48,7 +50,8 @@ fn put_limits<const N: usize>(text: &mut Text<N>)
 // Puts the whole page.
 fn put_page<const N: usize>(text: &mut Text<N>)
     requires { length text.old + 14 + 63 * entries + 7 + 26 * 21 ≤ N }
-    ensures { text.new ≡ text.old ++ page }
+    ensures written { text.new ≡ text.old ++ page }
+    ensures upper_bound { length text.new ≤ length text.old + 14 + 63 * entries + 7 + 26 * 21 }
 {
     text.put(b"mm under over\n");
     put_figures(text);
@@ -59,7 +62,7 @@ fn put_page<const N: usize>(text: &mut Text<N>)
 fn main(rt: HostRuntime) {
     let mut text: Text<131072> = Text::new();
     put_page(&mut text);
-    if rt.write_all(text.as_slice()).is_err() {
-        let _ = rt.eprint("annex: cannot write\n");
+    if let Err(failure) = write(&rt, text.as_slice()) {
+        complain(&rt, "annex", &failure);
     }
 }

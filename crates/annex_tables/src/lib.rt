@@ -1,4 +1,4 @@
-// The annex: the running sums of the steps from 10.0 mm, at each whole millimetre to 1,600 mm.
+// The annex: the running sums of the steps from 10.0 mm, at each whole millimetre to 1,600 mm. The two sides are two tables, as 01 asks.
 #![tactic(auto)]
 
 mod lower;

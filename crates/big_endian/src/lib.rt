@@ -26,7 +26,8 @@ pub fn read_number(bytes: &[u8], offset: usize, width: usize) -> u64
     n
 }
 
-// Writes n in width bytes from an offset on, the last byte first.
+// Writes n in width bytes from an offset on, the last byte first. By index: after a loop over `iter_mut` of the part, no proof of what it holds
+// closed.
 #[tactic(auto, using(overlay::proofs::Overlay::nothing), unfolding(crate::specs::Bytes::bytes_of))]
 pub fn write_number(bytes: &mut [u8], offset: usize, width: usize, n: u64)
     requires { offset + width ≤ length bytes.old }

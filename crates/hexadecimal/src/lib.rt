@@ -1,7 +1,7 @@
 // Bytes written in hexadecimal.
 #![tactic(auto)]
 
-ghost use Rattle.std.specs.Prelude.{◌≡◌, ◌<◌, IfSome, position, eqb};
+ghost use Rattle.std.specs.Prelude.{◌≡◌, ◌<◌, IfSome, position, ◌==◌};
 ghost use Rattle.hexadecimal.specs.Hex.{digit_of, byte_of, bytes_of};
 
 use text::Text;
@@ -18,7 +18,7 @@ fn digit(b: u8) -> Option<u8>
 
 // The index of the first b among digits.
 fn find(digits: &[u8], b: u8) -> Option<usize>
-    ensures { result ≡ position (λ digit. eqb digit b) digits.now }
+    ensures { result ≡ position (λ digit. digit == b) digits.now }
 {
     digits.iter().position(|digit| *digit == b)
 }

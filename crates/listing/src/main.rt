@@ -1,7 +1,7 @@
 // Lists the sheets that stand one after another on standard input: a header, and a line for each.
 #![tactic(auto)]
 
-ghost use Rattle.std.specs.Prelude.{◌≡◌, cond, ◌-◌, ◌*◌, ◌%◌, ◌≤◌, length};
+ghost use Rattle.std.specs.Prelude.{◌≡◌, if◌then◌else◌, ◌-◌, ◌*◌, ◌%◌, ◌≤◌, length};
 ghost use Rattle.listing_text.specs.Listing.{lines_of};
 
 use std::io;
@@ -10,7 +10,7 @@ use text::Text;
 
 // How many bytes of a block are listed: all, but where a read failed no more than the whole sheets.
 fn listed_length(length: usize, failed: bool) -> usize
-    ensures value { result ≡ cond failed (length - length % 24) length }
+    ensures value { result ≡ (if failed then length - length % 24 else length) }
     ensures upper_bound { result ≤ length }
 {
     if failed {
@@ -19,7 +19,8 @@ fn listed_length(length: usize, failed: bool) -> usize
     length
 }
 
-// Writes the lines of a block of at most 512 sheets, which it puts in the text first.
+// Writes the lines of a block of at most 512 sheets, which it puts in the text first. The functions that list take the stream, the block and
+// the text one by one: a struct of the three that is lent to each would be no plainer, since nothing else takes it and each borrow is of one part.
 fn list<const N: usize>(rt: &impl Print, sheets: &[u8], text: &mut Text<N>) -> Result<(), Failure>
     requires { (length sheets.now ≤ 12_288) × (108 * 512 ≤ N) }
     ensures { text.new ≡ lines_of sheets.now }

@@ -3,7 +3,7 @@
 
 ghost use Rattle.std.specs.Prelude.{◌≡◌, ◌+◌, ◌<◌, ◌≤◌, length, take, drop, IfOk, IfErr, OnOk, OnErr};
 ghost use Rattle.std.specs.Io.KnownBytes.{Consumes, Keeps, IsAtEnd};
-ghost use Rattle.streams.specs.declared.Failure.TheVariants.{Write};
+ghost use Rattle.streams.specs.declared.Failure.TheVariants.{Read, Write};
 
 use std::{fmt, io};
 
@@ -24,12 +24,14 @@ impl fmt::Display for Failure {
 }
 
 // Reads until the block is full, the input ends or a read fails. Returns how many bytes that brought, and whether no read failed.
+// A loop of its own: no method of io::Read says how much came before the input ended.
 #[tactic(auto, using(crate::proofs::Consumed::more))]
 pub fn fill<R: io::Read>(reader: &mut R, block: &mut [u8]) -> (usize, Result<(), Failure>)
     ensures within { result.0 ≤ length block.new }
     ensures size { length block.new ≡ length block.old }
     ensures bytes { Consumes (R.remaining reader.old) (R.remaining reader.new) (take result.0 block.new) }
     ensures end { OnOk result.1 (result.0 < length block.new → IsAtEnd (R.remaining reader.new)) }
+    ensures err { IfErr result.1 (λ failure. failure ≡ Read) }
 {
     let mut length = 0;
     while length < block.len() {

@@ -1,4 +1,8 @@
 // A text in fixed memory: pieces put one after the other.
+// Tried for Display: what `fmt` writes to a writer of our own has no contract. Only `write!` to a String has one, and that needs the heap.
+// So a text is made by functions that put pieces. Each asks for the room that its own piece takes, which no type can carry.
+// The kit's ArrayVec would be no plainer: it takes a piece by a method that returns a Result, so each function would handle a failure that the
+// room it asks for excludes.
 #![tactic(auto)]
 
 ghost use Rattle.std.specs.Prelude.{◌≡◌, ℕ, ◌+◌, ◌≤◌, List, [], ◌++◌, length, take};
@@ -34,7 +38,8 @@ impl<const N: usize> Text<N> {
     }
 
     pub fn as_slice(&self) -> &[u8]
-        ensures { result.now ≡ self.now }
+        ensures value { result.now ≡ self.now }
+        ensures within { length result.now ≤ N }
     {
         &self.bytes[..self.length]
     }
@@ -54,7 +59,7 @@ impl<const N: usize> Text<N> {
         self.length = put(&mut self.bytes, self.length, piece);
     }
 
-    // Puts n in decimal digits, of which a u64 has 20 at the most.
+    // Puts n in decimal digits, of which a u64 has 20 at the most. `io::decimal` fills lent bytes and returns their number.
     #[tactic(auto, using(crate::proofs::Decimal::fewest))]
     pub fn put_decimal(&mut self, n: u64)
         requires { length self.old + 20 ≤ N }

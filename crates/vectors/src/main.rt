@@ -92,7 +92,7 @@ fn sum_up(rt: &impl Print, count: u64, failed: u64) -> Result<(), Failure> {
     println!(rt; "{count} vectors, {failed} failed").map_err(|_| Failure::Write)
 }
 
-// Runs the vectors of all lines.
+// Runs the vectors of all lines. With a bound in place of the runtime the loop's proof does not close.
 fn run(rt: &HostRuntime, vectors: &[u8]) -> Result<(), Failure> {
     let mut count = 0;
     let mut failed = 0;

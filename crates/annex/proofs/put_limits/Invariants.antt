@@ -4,8 +4,8 @@ use Rattle.text.specs.Text.{concatenated}
 use Rattle.annex.specs.Page.{limit}
 use Rattle.annex.proofs.put_limits.Given as goal
 
-abbrev pub invariant-loop-k : goal.invariant-loop-k
-invariant-loop-k g l = record {
-  written : l.text ≡ l.initial.text ++ concatenated (limit 32) l.k;
-  room : length l.text ≤ length l.initial.text + 21 * l.k;
+abbrev pub invariant-loop-limit : goal.invariant-loop-limit
+invariant-loop-limit g l = record {
+  written : l.text ≡ l.initial.text ++ concatenated (limit 32) l.limit-index;
+  room : length l.text ≤ length l.initial.text + 21 * l.limit-index;
 }
