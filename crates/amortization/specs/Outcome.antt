@@ -1,4 +1,4 @@
--- What the code hands back.
+-- What the call of a yearly share responds.
 -- Assumes nothing.
 use Rattle.std.specs.Prelude.{ℕ, Result, [], ◌∷◌}
 use Rattle.refusals.specs.declared.Refusal.{Refusal}

@@ -9,7 +9,8 @@ use crate::compounding::{Down, PRINCIPAL, Rounding, Up, growth};
 use fractions::nearest;
 use refusals::{Refusal, outside};
 
-// The yearly share in units of 0.0001, from a rate in the same units and a term in years.
+// The yearly share in units of 0.0001, from a rate in the same units and a term in years: two numbers here and below, as the C interface
+// hands them over; a struct of both would be taken apart at once.
 #[tactic(auto, using(crate::proofs::Given::share_fits), unfolding(refusals::specs::Response::respond))]
 pub fn share(rate: u64, years: u64) -> Result<u16, Refusal>
     ensures { response result ≡ share_response rate years }

@@ -52,7 +52,8 @@ impl Rounding for Up {
     }
 }
 
-// The growth of the principal with so many years left to compound.
+// The growth of the principal with so many years left to compound: 01, "Matching forms to places", names the form, a recursion on the years
+// left.
 pub(crate) fn growth<R: Rounding>(rate: u64, left: u64) -> u64
     requires rate_bound { rate ≤ 3_000 }
     requires left_bound { left ≤ 30 }

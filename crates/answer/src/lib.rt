@@ -11,7 +11,7 @@ use verdict::Verdict;
 
 // The thickness with its two checks, that of the loss where a limit is printed, and the bound on the surface's temperature: an upper one on
 // a hot line, a lower one on a cold one.
-#[derive(Clone, Copy)]
+#[derive(Clone, Copy, Debug, PartialEq, Eq)]
 pub struct Answer {
     pub shape: Shape,
     pub thickness: Thickness,

@@ -9,7 +9,7 @@ use requirement::Goal;
 use sheet::{GoalCode, Sheet};
 
 // The sheet, and its line at Δ.
-#[derive(Clone, Copy)]
+#[derive(Clone, Copy, Debug, PartialEq, Eq)]
 pub struct AdmittedSheet {
     pub sheet: Sheet,
     pub at: OperatingLine,

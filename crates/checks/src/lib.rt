@@ -16,7 +16,7 @@ use requirement::{Goal, required};
 use temperatures::Temperature;
 use verdict::{Verdict, judge};
 
-// Of a thickness whose have is `provided`.
+// The checks of an admitted sheet, and the bound on its surface's temperature, at a thickness that provides `provided`.
 impl AdmittedSheet {
     // The loss check, where a limit is printed.
     #[tactic(auto, unfolding(sheet::specs::Answer::loss_check))]
@@ -27,6 +27,7 @@ impl AdmittedSheet {
         Some(judge(provided, required(self.at, Goal::Loss(limit))))
     }
 
+    // The surface check: a pipe that is itself no warmer than the limit is within it.
     #[tactic(auto, unfolding(sheet::specs::Answer::surface_check))]
     pub fn surface_check(self, provided: Bounds) -> Verdict
         ensures { result ≡ surface_check self.sheet provided }

@@ -70,7 +70,7 @@ pub fn kd_share(rate: u64, years: u64, share: &mut u16) -> u8
 fn encoded(outcome: Result<Answer, Refusal>) -> Result<[u8; 8], Refusal>
     ensures { response_of (λ bytes. bytes) result ≡ response outcome }
 {
-    Ok(outcome?.encode())
+    outcome.map(Answer::encode)
 }
 
 // Puts what is given into its place, and returns 0, or the number of the refusal.

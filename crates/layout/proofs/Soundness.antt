@@ -1,4 +1,4 @@
--- Books of which neither 31 nor 32 holds, and what an examination says of a book.
+-- Books of which neither 31 nor 32 holds.
 -- Assumes nothing.
 use mathlib.Core.Path.{◌≡◌, refl}
 use mathlib.Core.Bool.{false}

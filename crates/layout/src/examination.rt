@@ -10,7 +10,7 @@ use crate::offsets::BookLayout;
 use big_endian::read_number;
 use refusals::Refusal;
 
-#[derive(Clone, Copy)]
+#[derive(Clone, Copy, Debug, PartialEq, Eq)]
 pub struct Sizes {
     pub capacity: u64,
     pub count: u64,
@@ -20,7 +20,11 @@ impl BookLayout {
     // The book that these bytes are, or what is wrong with its sizes.
     #[tactic(auto, unfolding(refusals::specs::Response::respond))]
     pub fn examine(self, bytes: &[u8]) -> Result<Book<'_>, Refusal>
-        ensures response { examined result ≡ respond (book_cases self.plain bytes.now) (sizes_capacity self.plain bytes.now ∷ sizes_count self.plain bytes.now ∷ []) }
+        ensures response {
+            let l = self.plain in
+            let b = bytes.now in
+            examined result ≡ respond (book_cases l b) (sizes_capacity l b ∷ sizes_count l b ∷ [])
+        }
         ensures same { IfOk result (λ b. (b.layout ≡ self) × (b.bytes.now ≡ bytes.now)) }
     {
         if bytes.len() < self.header() {

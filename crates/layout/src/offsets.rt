@@ -7,7 +7,7 @@ ghost use Rattle.layout.specs.Usable.{Usable};
 use refusals::outside;
 
 // The bytes before the sizes, the bytes of a size, the largest capacity, and the bytes of a sheet.
-#[derive(Clone, Copy)]
+#[derive(Clone, Copy, Debug, PartialEq, Eq)]
 pub struct Layout {
     pub lead: usize,
     pub width: usize,
@@ -16,7 +16,7 @@ pub struct Layout {
 }
 
 // A layout whose sizes and offsets fit.
-#[derive(Clone, Copy)]
+#[derive(Clone, Copy, Debug, PartialEq, Eq)]
 pub struct BookLayout {
     pub plain: Layout,
     pub ghost usable: { Usable plain },
@@ -36,13 +36,14 @@ impl BookLayout {
         }
     }
 
-    // Where the count stands, and where the sizes end.
+    // Where the count stands.
     pub fn count_offset(self) -> usize
         ensures { result ≡ count_offset self.plain }
     {
         self.plain.lead + self.plain.width
     }
 
+    // Where the sizes end.
     pub(crate) fn header(self) -> usize
         ensures { result ≡ layout_header self.plain }
     {
@@ -68,12 +69,8 @@ impl BookLayout {
     pub fn wrong_size(self, size: usize, capacity: u64) -> bool
         ensures { result ≡ wrong_size self.plain size capacity }
     {
-        if size < self.header() {
-            return true;
-        }
-        if outside(capacity, 1, self.plain.largest) {
-            return true;
-        }
-        size != self.answer_offset(capacity, capacity)
+        size < self.header()
+            || outside(capacity, 1, self.plain.largest)
+            || size != self.answer_offset(capacity, capacity)
     }
 }

@@ -1,7 +1,7 @@
 -- A limit of heat loss as the code hands it over.
 -- Assumes nothing.
-use Rattle.std.specs.Prelude.{ℕ, cond, eqb, Option, Some, None}
+use Rattle.std.specs.Prelude.{ℕ, eqb, if◌then◌else◌, Option, Some, None}
 
--- a limit that is printed, or none, which stands as 0 in the definitions
+-- of a limit as the definitions give it, 0 standing for none
 abbrev pub printed : ℕ → Option ℕ
-printed limit = cond (eqb limit 0) None (Some limit)
+printed limit = if eqb limit 0 then None else Some limit

@@ -9,8 +9,7 @@ ghost use Rattle.limits.specs.Printed.{printed};
 
 use temperatures::Temperature;
 
-// The limits in W/m², row by row from 50 °C to 650 °C, year-round before seasonal; 0 where none is printed, since 02 asks for one flat list of
-// 26 numbers.
+// The limits in W/m², row by row from 50 °C to 650 °C, year-round before seasonal; 0 where none is printed: the list that 02, N3 asks for.
 const LIMITS: [u64; 26] = [
     58, 116, // 50 °C
     93, 163, // 100 °C
@@ -37,7 +36,8 @@ pub fn flat_table() -> [u64; 26]
     LIMITS
 }
 
-// The limit of heat loss in 0.1 W/m² for a service and a pipe's temperature, where one is printed.
+// The limit of heat loss in 0.1 W/m² for a service and a pipe's temperature, where one is printed. A service is a number, as in a `Sheet`: the
+// list finds its place by arithmetic on it (02, N3).
 pub fn loss_limit(service: u64, temperature: Temperature) -> Option<u64>
     requires { (1 ≤ service) × (service ≤ 4) × (temperature.0 ≤ (tenths_celsius 6_500).0) }
     ensures { result ≡ printed (loss_limit service temperature) }
@@ -84,7 +84,7 @@ pub fn surface_limit(ambient: Temperature) -> Temperature
     requires { ambient.0 ≤ (tenths_celsius 6_500).0 }
     ensures { result ≡ surface_limit ambient }
 {
-    if ambient.0 <= Temperature::ZERO + 270 {
+    if ambient <= Temperature(Temperature::ZERO + 270) {
         Temperature(Temperature::ZERO + 500)
     } else {
         Temperature(ambient.0 + 250)

@@ -9,6 +9,9 @@ use fractions::Bounds;
 use lengths::Diameter;
 use quadrature::step;
 
+// Each function asks for the range of its diameters: 01 asks for a tuple struct, which has no ghost field, and the range differs from place to
+// place.
+
 // The logarithm from d to e, step by step.
 fn log_by_steps(d: Diameter, e: Diameter) -> Bounds
     requires { (100 ≤ d.0) × (d.0 ≤ e.0) × (e.0 ≤ 16000) }

@@ -37,8 +37,8 @@ impl Provision {
     }
 
     // Under-have and over-have: what a thickness provides, rounded down and rounded up. The range of a thickness is asked for here and
-    // below: a struct of one number, it has no place for a fact.
-    #[tactic(auto, using(crate::proofs::Sizes::film_small), unfolding(crate::specs::Provided::provided))]
+    // below: 01 asks for a tuple struct, which has no ghost field, and each caller has its thickness from `Ladder::thickness`.
+    #[tactic(auto, using(crate::proofs::Sizes::insulation_fits, crate::proofs::Sizes::film_small), unfolding(crate::specs::Provided::provided))]
     pub fn at(self, k: Thickness) -> Bounds
         requires { k.0 ≤ 300 }
         ensures { result ≡ provided self.line.line k }
@@ -71,7 +71,7 @@ fn film(line: CheckedLine) -> Bounds
 // What the insulation provides.
 fn insulation(p: Provision, k: Thickness) -> Bounds
     requires { k.0 ≤ 300 }
-    ensures { (result ≡ insulation_bounds (shape_of p.line.line) p.line.line.diameter k) × (result.lower ≤ 2 ^ 62) × (result.upper ≤ 2 ^ 62) }
+    ensures { result ≡ insulation_bounds (shape_of p.line.line) p.line.line.diameter k }
 {
     let line = p.line.line;
     match line.shape() {
@@ -80,10 +80,11 @@ fn insulation(p: Provision, k: Thickness) -> Bounds
     }
 }
 
-// What insulation of thickness k provides around a pipe of diameter d, to which the logarithm from 10.0 mm is `inner`.
+// What insulation of thickness k provides around a pipe of diameter d, to which the logarithm from 10.0 mm is `inner`. A diameter is the tuple
+// struct that 01 asks for, so its range is asked for.
 fn cylinder_insulation(inner: Bounds, d: Diameter, k: Thickness) -> Bounds
     requires { (inner ≡ log_bounds (tenths 100) d) × (100 ≤ d.0) × (d.0 ≤ 10_000) × (k.0 ≤ 300) }
-    ensures { (result ≡ insulation_bounds Cylinder d k) × (result.lower ≤ 2 ^ 62) × (result.upper ≤ 2 ^ 62) }
+    ensures { result ≡ insulation_bounds Cylinder d k }
 {
     let e = d.outer(k);
     let log = log_beyond(inner, d, e);
@@ -97,7 +98,7 @@ fn cylinder_insulation(inner: Bounds, d: Diameter, k: Thickness) -> Bounds
 #[tactic(auto, unfolding(crate::specs::Provided::insulation, crate::specs::Provided::insulation_bounds))]
 fn flat_insulation(k: Thickness) -> Bounds
     requires { k.0 ≤ 300 }
-    ensures { ((D : Diameter) → result ≡ insulation_bounds Flat D k) × (result.lower ≤ 2 ^ 62) × (result.upper ≤ 2 ^ 62) }
+    ensures { (D : Diameter) → result ≡ insulation_bounds Flat D k }
 {
     Bounds::exact(1_000_000 * (k.0 as u64))
 }

@@ -19,16 +19,20 @@ pub(crate) struct Entry<'a> {
 
 // The entry of this number, after working its sheet out again.
 #[tactic(auto, unfolding(refusals::specs::Response::respond))]
-pub(crate) fn entry_of(book: Book<'_>, entry: u64) -> Result<Entry<'_>, Refusal>
-    ensures response { let b = book.entry in response_of (λ e. e.sheet.now ++ e.answer.now) result ≡ reading b.layout.plain b.bytes.now entry }
-    ensures stored { let b = book.entry in IfOk result (λ e. (e.sheet.now ≡ stored_sheet b.layout.plain b.bytes.now entry) × (e.answer.now ≡ stored_answer b.layout.plain b.bytes.now entry)) }
-    ensures sizes { let b = book.entry in IfOk result (λ e. (length e.sheet.now ≡ b.layout.plain.sheet) × (length e.answer.now ≡ 8)) }
+pub(crate) fn entry_of(book: Book<'_>, number: u64) -> Result<Entry<'_>, Refusal>
+    ensures response { let b = book.entry in
+        response_of (λ e. e.sheet.now ++ e.answer.now) result ≡ reading b.layout.plain b.bytes.now number }
+    ensures stored { let l = book.entry.layout.plain in
+        let b = book.entry.bytes.now in
+        IfOk result (λ e. (e.sheet.now ≡ stored_sheet l b number) × (e.answer.now ≡ stored_answer l b number)) }
+    ensures sizes { let l = book.entry.layout.plain in
+        IfOk result (λ e. (length e.sheet.now ≡ l.sheet) × (length e.answer.now ≡ 8)) }
 {
-    if book.sizes.count <= entry {
+    if book.sizes.count <= number {
         return Err(Refusal::NoSuchEntry);
     }
-    let sheet_offset = book.layout.sheet_offset(entry);
-    let answer_offset = book.layout.answer_offset(book.sizes.capacity, entry);
+    let sheet_offset = book.layout.sheet_offset(number);
+    let answer_offset = book.layout.answer_offset(book.sizes.capacity, number);
     let sheet = slot(book.bytes, sheet_offset, book.layout.plain.sheet);
     let answer = slot(book.bytes, answer_offset, 8);
     let right = is_answer(sheet, answer);
@@ -48,7 +52,7 @@ fn slot(book: &[u8], offset: usize, size: usize) -> &[u8]
     &book[offset..end]
 }
 
-// Whether the sheet is answered, and with these bytes.
+// Whether the sheet is answered, and with these bytes. Not `is_ok_and`: tried, and the proof that the bytes decide did not close.
 fn is_answer(sheet: &[u8], filed: &[u8]) -> bool
     ensures { result ≡ gives (response_to sheet.now) filed.now }
 {

@@ -1,4 +1,4 @@
--- What a call responds that returns a Result. 01, "Matching forms to places": "The definition gives this paper's number and values for each
+-- What a call that returns a Result responds. 01, "Matching forms to places": "The definition gives this paper's number and values for each
 -- of the enum's cases."
 -- Assumes nothing.
 use Rattle.std.specs.Prelude.{ℕ, List, Result, Ok, Err}

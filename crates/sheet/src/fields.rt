@@ -18,6 +18,8 @@ pub enum GoalCode {
 }
 
 impl GoalCode {
+    // Not a `TryFrom`: every code has a reading, since refusal 12 is of the number as it is written. Nor a `From`, since this and `flow_of`
+    // are two readings of one number.
     pub(crate) fn of(code: u64) -> GoalCode
         ensures { result ≡ goal_code code }
     {
@@ -43,7 +45,7 @@ impl GoalCode {
     }
 }
 
-// The direction of the heat's flow by a goal's code: inward for 4 and 5.
+// The direction of the heat's flow by a goal's code: inward for 4 and 5. A function, as `GoalCode::of` is.
 fn flow_of(code: u64) -> HeatFlow
     ensures { result ≡ flow_of code }
 {
@@ -56,7 +58,7 @@ fn flow_of(code: u64) -> HeatFlow
 // The goal's code as it is written and as it is read, the direction of the heat's flow, the service, the insulated line, the temperatures t
 // of the pipe and ta of the air, the economy terms, and the aim as it is written. Any 24 bytes are a sheet, so code and service are numbers:
 // refusal 12 is of a number that is no goal or service.
-#[derive(Clone, Copy)]
+#[derive(Clone, Copy, Debug, PartialEq, Eq)]
 pub struct Sheet {
     pub code: u64,
     pub goal: GoalCode,

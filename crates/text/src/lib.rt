@@ -1,6 +1,6 @@
 // A text in fixed memory: pieces put one after the other.
-// Tried for Display: what `fmt` writes to a writer of our own has no contract. Only `write!` to a String has one, and that needs the heap.
-// So a text is made by functions that put pieces. Each asks for the room that its own piece takes, which no type can carry.
+// No Display: what `fmt` writes to a writer of our own has no contract. Only `write!` to a String has one, and that needs the heap. So a text
+// is made by functions that put pieces. Each asks for the room that its own piece takes, which no type can carry.
 // The kit's ArrayVec would be no plainer: it takes a piece by a method that returns a Result, so each function would handle a failure that the
 // room it asks for excludes.
 #![tactic(auto)]

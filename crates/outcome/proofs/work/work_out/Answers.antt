@@ -1,11 +1,11 @@
 -- Case 11, and then those of the decoded sheet.
-use Rattle.std.proofs.Common.{◌≡◌, ℕ, List, [], ◌∷◌, ◌++◌, length, inl, inr, sym, ap, ◌∙◌, arith}
+use Rattle.std.proofs.Common.{length, sym, ap, ◌∙◌, arith}
 use borrow.Author.Tests.{eq-eqb, ne_eqb}
 use Rattle.std.proofs.lemmas.Result.{err_from_is_err_and}
-use Rattle.refusals.specs.Cases.{Case, NoneHolds, FirstHolds}
+use Rattle.refusals.specs.Cases.{NoneHolds, FirstHolds}
 use Rattle.refusals.specs.Numbers.{number_of}
 use Rattle.refusals.specs.Response.{refused, respond}
-use Rattle.refusals.proofs.Response.{later}
+use Rattle.refusals.proofs.Response.{later, first_counts}
 use Rattle.answer.specs.Answer.{encoded}
 use Rattle.sheet.specs.declared.fields.Sheet.{Sheet}
 use Rattle.sheet.specs.Sheet.{decoded}
@@ -13,13 +13,6 @@ use Rattle.sheet.specs.Search.{chosen}
 use Rattle.sheet.specs.Answer.{answer_of, answer}
 use Rattle.sheet.specs.Refusals.{value_cases, ladder_cases}
 use Rattle.outcome.proofs.work.work_out.Goals as goal
-
--- the first case that holds is the one that counts, whatever stands behind it
-first_counts : (n : ℕ) (cs ds : List Case) (bytes : List ℕ) → FirstHolds n cs → respond (cs ++ ds) bytes ≡ refused n
-unfolding FirstHolds respond
-first_counts n [] ds bytes first = absurd first
-first_counts n (c ∷ cs) ds bytes (inl here) = rw (here.0, here.1)
-first_counts n (c ∷ cs) ds bytes (inr behind) = rw behind.0 (first_counts n cs ds bytes behind.1)
 
 pub returns-then-wrong : goal.returns-then-wrong
 unfolding respond
