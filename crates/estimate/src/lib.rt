@@ -35,8 +35,8 @@ fn likely_thickness(line: CheckedLine, rest: u64) -> u64
 }
 
 // The same around a pipe of diameter d. With z = rest / d, the outer diameter is about d (1 + z factor / divisor), where the factor is
-// 1 + 0.376 z + 0.0044 z² and the divisor 1 + 0.783 z + 0.0215 z²: up to 300 mm within 1.7 per cent of the thickness. A diameter is the tuple struct that 01
-// asks for, so its range is asked for.
+// 1 + 0.376 z + 0.0044 z² and the divisor 1 + 0.783 z + 0.0215 z²: up to 300 mm within 1.7 per cent of the thickness. The range of a diameter
+// is asked for here, since 01 asks for a tuple struct, which has no ghost field.
 fn around_pipe(d: Diameter, rest: u64) -> u64
     requires { (100 ≤ d.0) × (rest < 4_000_000) }
     ensures { result ≤ rest }

@@ -20,7 +20,7 @@ fn listed_length(length: usize, failed: bool) -> usize
 }
 
 // Writes the lines of a block of at most 512 sheets, which it puts in the text first. The functions that list take the stream, the block and
-// the text one by one: a struct of the three that is lent to each would be no plainer, since nothing else takes it and each borrow is of one part.
+// the text one by one: a struct of the three would be no plainer, since nothing else takes it and each borrow is of one part.
 fn list<const N: usize>(rt: &impl Print, sheets: &[u8], text: &mut Text<N>) -> Result<(), Failure>
     requires { (length sheets.now ≤ 12_288) × (108 * 512 ≤ N) }
     ensures { text.new ≡ lines_of sheets.now }
