@@ -20,11 +20,9 @@ impl BookLayout {
     // The book that these bytes are, or what is wrong with its sizes.
     #[tactic(auto, unfolding(refusals::specs::Response::respond))]
     pub fn examine(self, bytes: &[u8]) -> Result<Book<'_>, Refusal>
-        ensures response {
-            let l = self.plain in
+        ensures response { let l = self.plain in
             let b = bytes.now in
-            examined result ≡ respond (book_cases l b) (sizes_capacity l b ∷ sizes_count l b ∷ [])
-        }
+            examined result ≡ respond (book_cases l b) (sizes_capacity l b ∷ sizes_count l b ∷ []) }
         ensures same { IfOk result (λ b. (b.layout ≡ self) × (b.bytes.now ≡ bytes.now)) }
     {
         if bytes.len() < self.header() {

@@ -4,7 +4,7 @@ use borrow.Author.Tests.{eq-eqb, ne_eqb}
 use Rattle.std.proofs.lemmas.Result.{err_from_is_err_and}
 use Rattle.refusals.specs.Cases.{NoneHolds, FirstHolds}
 use Rattle.refusals.specs.Numbers.{number_of}
-use Rattle.refusals.specs.Response.{refused, respond}
+use Rattle.refusals.specs.Response.{respond}
 use Rattle.refusals.proofs.Response.{later, first_counts}
 use Rattle.answer.specs.Answer.{encoded}
 use Rattle.sheet.specs.declared.fields.Sheet.{Sheet}
