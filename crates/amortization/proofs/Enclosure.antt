@@ -6,13 +6,11 @@ use native.Mathlib.Nat.{add-sub_of_le, add-sub_cancel_left, div-eq_of_lt-le, le-
 use native.Mathlib.Omega.{arith}
 use Rattle.fractions.specs.Fraction.{Fraction, ◌over◌, ◌≼◌, ◌≺◌}
 use Rattle.fractions.specs.Rounding.{floor, ceiling, nearest}
-use Rattle.fractions.proofs.Rounding.{nearest_mono}
-use Rattle.amortization.specs.declared.compounding.Rounding.{Rounding}
-use Rattle.amortization.specs.declared.compounding.Rounding.TheVariants.{Down, Up}
-use Rattle.amortization.specs.Growth.{principal, growth, rounded_growth, rounded_to, exact_growth}
+use Rattle.fractions.proofs.Rounding.{floor_ceiling, nearest_mono}
+use Rattle.amortization.specs.Growth.{principal, growth, rounded_growth, exact_growth}
 use Rattle.amortization.specs.Share.{share, share_by, exact_share}
 use Rattle.amortization.specs.Ranges.{InRange}
-use Rattle.amortization.proofs.Growth.{growth_enclosed, simple_interest}
+use Rattle.amortization.proofs.Growth.{growth_enclosed, simple_interest, at_lowest}
 
 -- both sides are i (d + b) (c + a)
 product : (i a b c d : ℕ) → i * (d + b) * a + i * ((d + b) * c) ≡ i * (c + a) * b + i * ((c + a) * d)
@@ -36,10 +34,12 @@ module _ (i n : ℕ) (some : 1 ≤ i) (years : 1 ≤ n) where
   pub exact_grown : 10_000 ^ n < (10_000 + i) ^ n
   exact_grown = omega (arith, (growth_enclosed i n).0, mul-le-mul_right (10_000 ^ n) floor_grown, one-le-pow n 10_000 (omega arith))
 
+  -- with every rounding that is not below the one down, growth is above 10⁹
+  pub grown : (round : Fraction → ℕ) → ((p : Fraction) → 0 < p.den → floor p ≤ round p) → principal < growth round i n
+  grown round least = omega (arith, floor_grown, at_lowest round least i n)
+
   pub ceiling_grown : principal < growth ceiling i n
-  ceiling_grown =
-      let not_less : ¬ (growth ceiling i n ≤ principal) = λ le. omega (arith, (growth_enclosed i n).1, exact_grown, mul-le-mul_right (10_000 ^ n) le) in
-      omega arith
+  ceiling_grown = grown ceiling floor_ceiling
 
   pub share_above : share i (exact_growth i n) ≼ share i (rounded_growth floor i n)
   share_above = share_order i (rounded_growth floor i n) (exact_growth i n) floor_grown exact_grown (growth_enclosed i n).0
@@ -75,8 +75,3 @@ module _ (i n : ℕ) (h : InRange i n) where
       let interest = mul-le-mul_left i h.term_least in
       let whole : i * (principal + a) ≡ i * growth floor i n = ap (λ (x : ℕ). i * x) (add-sub_of_le (omega arith)) in
       omega (arith, (div-lt_iff_lt-mul {k = 2 * a} {x = 2 * (i * growth floor i n) + a} {y = 10_001} (omega arith)).1 (omega (arith, mul-le-mul_right a h.rate_most)))
-
--- with either rounding, growth is above 10⁹
-pub grown : (r : Rounding) (i n : ℕ) → 1 ≤ i → 1 ≤ n → principal < growth (rounded_to r) i n
-grown Down = floor_grown
-grown Up = ceiling_grown

@@ -8,10 +8,8 @@ use native.Mathlib.Omega.{arith}
 use borrow.Enum.Match.{each_below}
 use Rattle.fractions.specs.Fraction.{Fraction, ◌over◌, ◌≼◌}
 use Rattle.fractions.specs.Rounding.{floor, ceiling}
-use Rattle.fractions.proofs.Rounding.{floor_below, ceiling_above, ceiling_mono, floor_ceiling}
-use Rattle.amortization.specs.declared.compounding.Rounding.{Rounding}
-use Rattle.amortization.specs.declared.compounding.Rounding.TheVariants.{Down, Up}
-use Rattle.amortization.specs.Growth.{principal, year, growth, rounded_growth, exact_growth, rounded_to}
+use Rattle.fractions.proofs.Rounding.{floor_below, ceiling_above, floor_mono, ceiling_mono}
+use Rattle.amortization.specs.Growth.{principal, year, growth, rounded_growth, exact_growth}
 
 -- "once rounded down and once up": the exact growth lies between the two
 pub growth_enclosed : (i n : ℕ) → (rounded_growth floor i n ≼ exact_growth i n) × (exact_growth i n ≼ rounded_growth ceiling i n)
@@ -32,26 +30,32 @@ simple_interest i (suc n) =
     omega (arith, before, mul-le-mul_right {m = principal} {n = growth floor i n} i (omega (arith, before)), mul-suc i n)
 
 -- No growth is above that at the highest rate, rounded up, which is known for thirty years.
-rounded_most : (r : Rounding) (p : Fraction) → 0 < p.den → rounded_to r p ≤ ceiling p
-rounded_most Down p pos = floor_ceiling p pos
-rounded_most Up p pos = le_refl (ceiling p)
-
-at_highest : (r : Rounding) (i n : ℕ) → i ≤ 3_000 → growth (rounded_to r) i n ≤ growth ceiling 3_000 n
-unfolding growth
-at_highest r i zero rate = le_refl principal
-at_highest r i (suc n) rate =
-    let p : Fraction = (growth (rounded_to r) i n * (10_000 + i)) over 10_000 in
-    let factors = mul-le-mul {m₁ = 10_000 + i} {m₂ = 13_000} (at_highest r i n rate) (omega arith) in
-    le_trans (rounded_most r p (omega arith)) (ceiling_mono p ((growth ceiling 3_000 n * 13_000) over 10_000) (omega arith) (omega arith) (omega arith))
+module _ (round : Fraction → ℕ) (most : (p : Fraction) → 0 < p.den → round p ≤ ceiling p) where
+  at_highest : (i n : ℕ) → i ≤ 3_000 → growth round i n ≤ growth ceiling 3_000 n
+  unfolding growth
+  at_highest i zero rate = le_refl principal
+  at_highest i (suc n) rate =
+      let p : Fraction = (growth round i n * (10_000 + i)) over 10_000 in
+      let factors = mul-le-mul {m₁ = 10_000 + i} {m₂ = 13_000} (at_highest i n rate) (omega arith) in
+      le_trans (most p (omega arith)) (ceiling_mono p ((growth ceiling 3_000 n * 13_000) over 10_000) (omega arith) (omega arith) (omega arith))
 
 highest : (n : ℕ) → n < 31 → growth ceiling 3_000 n ≤ 2_619_995_644_000
 unfolding growth
 highest = each_below 31 (λ n. growth ceiling 3_000 n ≤ 2_619_995_644_000) (omega arith)
 
 -- so the product of a year fits
-pub year_fits : (r : Rounding) (i n : ℕ) → i ≤ 3_000 → n ≤ 30 → growth (rounded_to r) i n * (10_000 + i) < 1_000_000_000_000_000_000
-year_fits r i n rate term =
-    omega (arith, highest n (omega arith), mul-le-mul {m₁ = 10_000 + i} {m₂ = 13_000} (at_highest r i n rate) (omega arith))
+pub year_fits : (round : Fraction → ℕ) → ((p : Fraction) → 0 < p.den → round p ≤ ceiling p) → (i n : ℕ) → i ≤ 3_000 → n ≤ 30 → growth round i n * (10_000 + i) < 1_000_000_000_000_000_000
+year_fits round most i n rate term =
+    omega (arith, highest n (omega arith), mul-le-mul {m₁ = 10_000 + i} {m₂ = 13_000} (at_highest round most i n rate) (omega arith))
+
+-- no growth is below the one rounded down
+pub at_lowest : (round : Fraction → ℕ) → ((p : Fraction) → 0 < p.den → floor p ≤ round p) → (i n : ℕ) → growth floor i n ≤ growth round i n
+unfolding growth
+at_lowest round least i zero = le_refl principal
+at_lowest round least i (suc n) =
+    let p : Fraction = (growth round i n * (10_000 + i)) over 10_000 in
+    let factors = mul-le-mul_right (10_000 + i) (at_lowest round least i n) in
+    le_trans (floor_mono ((growth floor i n * (10_000 + i)) over 10_000) p (omega arith) (omega arith) (omega arith)) (least p (omega arith))
 
 pub last_year : (round : Fraction → ℕ) (i n : ℕ) → 0 < n → growth round i n ≡ year round i (growth round i (n - 1))
 unfolding growth

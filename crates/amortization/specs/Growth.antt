@@ -2,9 +2,6 @@
 -- Assumes nothing.
 use Rattle.std.specs.Prelude.{ℕ, zero, suc, ◌+◌, ◌*◌, ◌^◌}
 use Rattle.fractions.specs.Fraction.{Fraction, ◌over◌}
-use Rattle.fractions.specs.Rounding.{floor, ceiling}
-use Rattle.amortization.specs.declared.compounding.Rounding.{Rounding}
-use Rattle.amortization.specs.declared.compounding.Rounding.TheVariants.{Down, Up}
 
 -- "from 10⁹": what is compounded
 abbrev pub principal : ℕ
@@ -26,8 +23,3 @@ rounded_growth round i n = growth round i n over principal
 -- the growth unrounded, (1 + i / 10,000)ⁿ
 abbrev pub exact_growth : ℕ → ℕ → Fraction
 exact_growth i n = ((10_000 + i) ^ n) over (10_000 ^ n)
-
--- the code's names for the two roundings
-abbrev pub rounded_to : Rounding → Fraction → ℕ
-rounded_to Down = floor
-rounded_to Up = ceiling

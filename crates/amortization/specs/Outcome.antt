@@ -1,12 +1,10 @@
--- What the code hands back. 01, "Matching forms to places": "The definition gives this paper's number and values for each of the enum's
--- cases."
+-- What the call of a yearly share responds.
 -- Assumes nothing.
-use Rattle.std.specs.Prelude.{[], ◌∷◌}
-use Rattle.refusals.specs.Numbers.{number_of}
-use Rattle.refusals.specs.Response.{Response, refused, complete}
-use Rattle.amortization.specs.declared.apportionment.YearlyShare.{YearlyShare}
-use Rattle.amortization.specs.declared.apportionment.YearlyShare.TheVariants.{Refused, Given}
+use Rattle.std.specs.Prelude.{ℕ, Result, [], ◌∷◌}
+use Rattle.refusals.specs.declared.Refusal.{Refusal}
+use Rattle.refusals.specs.Response.{Response}
+use Rattle.refusals.specs.Returned.{response_of}
 
-abbrev pub response : YearlyShare → Response
-response (Refused why) = refused (number_of why)
-response (Given s) = complete (s ∷ [])
+-- its refusal, or the share
+abbrev pub response : Result ℕ Refusal → Response
+response = response_of (λ s. s ∷ [])

@@ -1,43 +1,37 @@
 // The yearly share, or its refusal.
 ghost use Rattle.std.specs.Prelude.{◌≡◌};
-ghost use Rattle.amortization.specs.Growth.{rounded_to};
 ghost use Rattle.amortization.specs.Share.{share_by};
 ghost use Rattle.amortization.specs.Ranges.{InRange};
 ghost use Rattle.amortization.specs.Refusals.{share_response};
 ghost use Rattle.amortization.specs.Outcome.{response};
 
-use crate::compounding::{PRINCIPAL, Rounding, growth};
+use crate::compounding::{Down, PRINCIPAL, Rounding, Up, growth};
 use fractions::nearest;
 use refusals::{Refusal, outside};
 
-#[derive(Clone, Copy)]
-pub enum YearlyShare {
-    Refused(Refusal),
-    // In units of 0.0001.
-    Given(u16),
-}
-
-// The yearly share, from a rate in units of 0.0001 and a term in years.
-pub fn share(rate: u64, years: u64) -> YearlyShare
+// The yearly share in units of 0.0001, from a rate in the same units and a term in years: two numbers here and below, as the C interface
+// hands them over; a struct of both would be taken apart at once.
+#[tactic(auto, using(crate::proofs::Given::share_fits), unfolding(refusals::specs::Response::respond))]
+pub fn share(rate: u64, years: u64) -> Result<u16, Refusal>
     ensures { response result ≡ share_response rate years }
 {
     if outside(rate, 1, 3_000) | outside(years, 2, 30) {
-        return YearlyShare::Refused(Refusal::RateOrTerm);
+        return Err(Refusal::RateOrTerm);
     }
-    let least = share_by(rate, years, Rounding::Up);
-    let most = share_by(rate, years, Rounding::Down);
+    let least = share_by::<Up>(rate, years);
+    let most = share_by::<Down>(rate, years);
     if least == most {
-        YearlyShare::Given(most as u16)
+        Ok(most as u16)
     } else {
-        YearlyShare::Refused(Refusal::ShareUndecided)
+        Err(Refusal::ShareUndecided)
     }
 }
 
 // The share by a growth that is rounded each year.
-fn share_by(rate: u64, years: u64, rounding: Rounding) -> u64
+fn share_by<R: Rounding>(rate: u64, years: u64) -> u64
     requires { InRange rate years }
-    ensures { result ≡ share_by (rounded_to rounding) rate years }
+    ensures { result ≡ share_by R.rounded rate years }
 {
-    let growth = growth(rate, years, rounding);
+    let growth = growth::<R>(rate, years);
     nearest(rate * growth, growth - PRINCIPAL)
 }

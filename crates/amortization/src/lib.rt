@@ -4,4 +4,4 @@
 mod apportionment;
 mod compounding;
 
-pub use apportionment::{YearlyShare, share};
+pub use apportionment::share;

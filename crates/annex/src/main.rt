@@ -1,70 +1,68 @@
 // Prints the annex for the printer.
 #![tactic(auto)]
 
-ghost use Rattle.std.specs.Prelude.{◌+◌, ◌*◌, ◌≤◌, length};
+ghost use Rattle.std.specs.Prelude.{◌≡◌, ◌+◌, ◌*◌, ◌≤◌, ◌++◌, length};
 ghost use Rattle.annex_tables.specs.Annex.{entries};
-ghost use Rattle.overlay.specs.Overlay.{Written};
 ghost use Rattle.text.specs.Text.{concatenated};
 ghost use Rattle.annex.specs.Page.{line, entry_line, limits_line, page};
 
 use fractions::Bounds;
-use overlay::put;
-use text::put_decimal_and;
+use streams::{complain, write};
+use text::Text;
 
 // Puts the line of a whole millimetre.
-fn put_line(out: &mut [u8], offset: usize, mm: u64, figures: Bounds) -> usize
-    requires { offset + 63 ≤ length out.old }
-    ensures written { Written out.old offset (line mm figures) out.new result }
-    ensures upper_bound { result ≤ offset + 63 }
+fn put_line<const N: usize>(text: &mut Text<N>, mm: u64, figures: Bounds)
+    requires { length text.old + 63 ≤ N }
+    ensures written { text.new ≡ text.old ++ line mm figures }
+    ensures upper_bound { length text.new ≤ length text.old + 63 }
 {
-    let lower = put_decimal_and(out, offset, mm, b' ');
-    let upper = put_decimal_and(out, lower, figures.lower, b' ');
-    put_decimal_and(out, upper, figures.upper, b'\n')
+    text.put_decimal_and(mm, b' ');
+    text.put_decimal_and(figures.lower, b' ');
+    text.put_decimal_and(figures.upper, b'\n');
 }
 
 // Puts the lines of all entries.
-fn put_figures(out: &mut [u8], offset: usize) -> usize
-    requires { offset + 63 * entries ≤ length out.old }
-    ensures written { Written out.old offset (concatenated entry_line entries) out.new result }
-    ensures upper_bound { result ≤ offset + 63 * entries }
+#[tactic(auto, using(text::proofs::Concatenated::concatenations))]
+fn put_figures<const N: usize>(text: &mut Text<N>)
+    requires { length text.old + 63 * entries ≤ N }
+    ensures written { text.new ≡ text.old ++ concatenated entry_line entries }
+    ensures upper_bound { length text.new ≤ length text.old + 63 * entries }
 {
-    let mut end = offset;
     for k in 0..annex_tables::ENTRIES {
-        end = put_line(out, end, 10 + k as u64, annex_tables::entry(k));
+        put_line(text, 10 + k as u64, annex_tables::entry(k));
     }
-    end
 }
 
 // Puts the loss limits on one line.
-fn put_limits(out: &mut [u8], offset: usize) -> usize
-    requires { offset + 26 * 21 ≤ length out.old }
-    ensures written { Written out.old offset limits_line out.new result }
-    ensures upper_bound { result ≤ offset + 26 * 21 }
+#[tactic(auto, using(text::proofs::Concatenated::concatenations))]
+fn put_limits<const N: usize>(text: &mut Text<N>)
+    requires { length text.old + 26 * 21 ≤ N }
+    ensures written { text.new ≡ text.old ++ limits_line }
+    ensures upper_bound { length text.new ≤ length text.old + 26 * 21 }
 {
     let table = limits::flat_table();
-    let mut end = offset;
-    for k in 0..25 {
-        end = put_decimal_and(out, end, table[k], b' ');
+    for limit in &table[..25] {
+        text.put_decimal_and(*limit, b' ');
     }
-    put_decimal_and(out, end, table[25], b'\n')
+    text.put_decimal_and(table[25], b'\n');
 }
 
-// Puts the whole page at the start of out, and returns where it ends.
-fn put_page(out: &mut [u8]) -> usize
-    requires { 14 + 63 * entries + 7 + 26 * 21 ≤ length out.old }
-    ensures written { Written out.old 0 page out.new result }
-    ensures upper_bound { result ≤ 14 + 63 * entries + 7 + 26 * 21 }
+// Puts the whole page.
+fn put_page<const N: usize>(text: &mut Text<N>)
+    requires { length text.old + 14 + 63 * entries + 7 + 26 * 21 ≤ N }
+    ensures written { text.new ≡ text.old ++ page }
+    ensures upper_bound { length text.new ≤ length text.old + 14 + 63 * entries + 7 + 26 * 21 }
 {
-    let figures = put(out, 0, b"mm under over\n");
-    let title = put_figures(out, figures);
-    let limits = put(out, title, b"limits\n");
-    put_limits(out, limits)
+    text.put(b"mm under over\n");
+    put_figures(text);
+    text.put(b"limits\n");
+    put_limits(text);
 }
 
 fn main(rt: HostRuntime) {
-    let mut out = [0u8; 131072];
-    let n = put_page(&mut out);
-    if rt.write_all(&out[0..n]).is_err() {
-        let _ = rt.eprint("annex: cannot write\n");
+    let mut text: Text<131072> = Text::new();
+    put_page(&mut text);
+    if let Err(failure) = write(&rt, text.as_slice()) {
+        complain(&rt, "annex", &failure);
     }
 }

@@ -1,13 +1,11 @@
 -- The bytes of an answer. 01, "The answer: 8 bytes".
 -- Assumes nothing.
-use Rattle.std.specs.Prelude.{ℕ, List, ◌∷◌, ◌++◌}
+use Rattle.std.specs.Prelude.{ℕ, List, ◌∷◌, ◌++◌, Option, Some, None}
 use Rattle.line.specs.declared.Shape.{Shape}
 use Rattle.line.specs.declared.Shape.TheVariants.{Cylinder, Flat}
 use Rattle.verdict.specs.declared.Verdict.{Verdict}
 use Rattle.verdict.specs.declared.Verdict.TheVariants.{Sufficient, Insufficient, Undecided}
 use Rattle.answer.specs.declared.Answer.{Answer}
-use Rattle.answer.specs.declared.LossCheck.{LossCheck}
-use Rattle.answer.specs.declared.LossCheck.TheVariants.{Judged, NonePrinted}
 use Rattle.big_endian.specs.Bytes.{bytes_of}
 use Rattle.temperatures.specs.Temperature.{encoded as twos_complement}
 
@@ -23,9 +21,9 @@ check_code Insufficient = 1
 check_code Undecided = 2
 
 -- "3 none printed"
-abbrev pub loss_code : LossCheck → ℕ
-loss_code (Judged v) = check_code v
-loss_code NonePrinted = 3
+abbrev pub loss_code : Option Verdict → ℕ
+loss_code (Some v) = check_code v
+loss_code None = 3
 
 -- "Byte 0 is 0. Byte 1: 1 cylinder, 2 flat. Bytes 2–3: thickness in mm. Byte 4, loss check … Byte 5, surface check … Bytes 6–7: surface
 -- bound in 0.1 °C, signed."

@@ -1,7 +1,7 @@
 // An answer, and its eight bytes.
 #![tactic(auto)]
 
-ghost use Rattle.std.specs.Prelude.{◌≡◌, ◌/◌, ◌%◌, ◌^◌};
+ghost use Rattle.std.specs.Prelude.{◌≡◌};
 ghost use Rattle.answer.specs.Answer.{shape_code, check_code, loss_code, encoded};
 
 use lengths::Thickness;
@@ -9,45 +9,38 @@ use line::Shape;
 use temperatures::Temperature;
 use verdict::Verdict;
 
-#[derive(Clone, Copy)]
-pub enum LossCheck {
-    Judged(Verdict),
-    NonePrinted,
-}
-
-// The thickness with its two checks, and the bound on the surface's temperature: an upper one on a hot line, a lower one on a cold one.
-#[derive(Clone, Copy)]
+// The thickness with its two checks, that of the loss where a limit is printed, and the bound on the surface's temperature: an upper one on
+// a hot line, a lower one on a cold one.
+#[derive(Clone, Copy, Debug, PartialEq, Eq)]
 pub struct Answer {
     pub shape: Shape,
     pub thickness: Thickness,
-    pub loss: LossCheck,
+    pub loss: Option<Verdict>,
     pub surface: Verdict,
     pub bound: Temperature,
 }
 
 impl Answer {
+    #[tactic(auto, unfolding(big_endian::specs::Bytes::bytes_of, crate::specs::Answer::encoded))]
     pub fn encode(self) -> [u8; 8]
         ensures { result ≡ encoded self }
     {
-        let shape = self.shape;
-        let loss = self.loss;
-        let surface = self.surface;
-        let thickness_high = high(self.thickness.0);
-        let thickness_low = low(self.thickness.0);
-        let bound = self.bound.encode();
+        let thickness = self.thickness.0.to_be_bytes();
+        let bound = self.bound.encode().to_be_bytes();
         [
             0,
-            shape_code(shape),
-            thickness_high,
-            thickness_low,
-            loss_code(loss),
-            check_code(surface),
-            high(bound),
-            low(bound),
+            shape_code(self.shape),
+            thickness[0],
+            thickness[1],
+            loss_code(self.loss),
+            check_code(self.surface),
+            bound[0],
+            bound[1],
         ]
     }
 }
 
+// These codes are the bytes' alone, so they are not the discriminants of the two enums, which other crates declare.
 fn shape_code(shape: Shape) -> u8
     ensures { result ≡ shape_code shape }
 {
@@ -67,24 +60,8 @@ fn check_code(verdict: Verdict) -> u8
     }
 }
 
-fn loss_code(check: LossCheck) -> u8
+fn loss_code(check: Option<Verdict>) -> u8
     ensures { result ≡ loss_code check }
 {
-    match check {
-        LossCheck::Judged(verdict) => check_code(verdict),
-        LossCheck::NonePrinted => 3,
-    }
-}
-
-// The first and the second of a number's two bytes.
-fn high(x: u16) -> u8
-    ensures { result ≡ x / 256 ^ 1 % 256 }
-{
-    (x / 256) as u8
-}
-
-fn low(x: u16) -> u8
-    ensures { result ≡ x / 256 ^ 0 % 256 }
-{
-    (x % 256) as u8
+    check.map_or(3, check_code)
 }

@@ -1,63 +1,58 @@
-// The words and figures of an answer, each put from an offset on.
-ghost use Rattle.std.specs.Prelude.{◌+◌, ◌≤◌, length};
-ghost use Rattle.overlay.specs.Overlay.{Written};
+// The words and figures of an answer. The codes are numbers, and no enums, since an answer is printed from its eight bytes, which may hold any
+// codes (01): an enum would need a variant for all others, and be no plainer.
+ghost use Rattle.std.specs.Prelude.{◌≡◌, ◌+◌, ◌≤◌, ◌++◌, length};
 ghost use Rattle.answer_text.specs.Response.{shape_word, check_word, tenths, degrees, spaced};
 
-use overlay::put;
 use temperatures::Temperature;
-use text::put_decimal;
+use text::Text;
 
 // The word for a shape, and a space.
-pub(crate) fn put_shape(out: &mut [u8], offset: usize, code: u8) -> usize
-    requires { offset + 9 ≤ length out.old }
-    ensures written { Written out.old offset (spaced (shape_word code)) out.new result }
-    ensures upper_bound { result ≤ offset + 9 }
+pub(crate) fn put_shape<const N: usize>(text: &mut Text<N>, code: u8)
+    requires { length text.old + 9 ≤ N }
+    ensures written { text.new ≡ text.old ++ spaced (shape_word code) }
+    ensures upper_bound { length text.new ≤ length text.old + 9 }
 {
-    if code == 1 {
-        return put(out, offset, b"cylinder ");
+    match code {
+        1 => text.put(b"cylinder "),
+        _ => text.put(b"flat "),
     }
-    put(out, offset, b"flat ")
 }
 
 // The word for a check, and a space.
-pub(crate) fn put_check(out: &mut [u8], offset: usize, code: u8) -> usize
-    requires { offset + 7 ≤ length out.old }
-    ensures written { Written out.old offset (spaced (check_word code)) out.new result }
-    ensures upper_bound { result ≤ offset + 7 }
+pub(crate) fn put_check<const N: usize>(text: &mut Text<N>, code: u8)
+    requires { length text.old + 7 ≤ N }
+    ensures written { text.new ≡ text.old ++ spaced (check_word code) }
+    ensures upper_bound { length text.new ≤ length text.old + 7 }
 {
-    if code == 0 {
-        return put(out, offset, b"within ");
+    match code {
+        0 => text.put(b"within "),
+        1 => text.put(b"over "),
+        2 => text.put(b"close "),
+        _ => text.put(b"none "),
     }
-    if code == 1 {
-        return put(out, offset, b"over ");
-    }
-    if code == 2 {
-        return put(out, offset, b"close ");
-    }
-    put(out, offset, b"none ")
 }
 
 // Tenths as a decimal number.
-fn put_tenths(out: &mut [u8], offset: usize, n: u64) -> usize
-    requires { offset + 41 ≤ length out.old }
-    ensures written { Written out.old offset (tenths n) out.new result }
-    ensures upper_bound { result ≤ offset + 41 }
+fn put_tenths<const N: usize>(text: &mut Text<N>, n: u64)
+    requires { length text.old + 41 ≤ N }
+    ensures written { text.new ≡ text.old ++ tenths n }
+    ensures upper_bound { length text.new ≤ length text.old + 41 }
 {
-    let point = put_decimal(out, offset, n / 10);
-    let digit = put(out, point, b".");
-    put_decimal(out, digit, n % 10)
+    text.put_decimal(n / 10);
+    text.put(b".");
+    text.put_decimal(n % 10);
 }
 
 // A temperature in degrees.
-pub(crate) fn put_degrees(out: &mut [u8], offset: usize, t: Temperature) -> usize
-    requires { offset + 42 ≤ length out.old }
-    ensures written { Written out.old offset (degrees t) out.new result }
-    ensures upper_bound { result ≤ offset + 42 }
+pub(crate) fn put_degrees<const N: usize>(text: &mut Text<N>, t: Temperature)
+    requires { length text.old + 42 ≤ N }
+    ensures written { text.new ≡ text.old ++ degrees t }
+    ensures upper_bound { length text.new ≤ length text.old + 42 }
 {
     let below = t.0 < Temperature::ZERO;
     if below {
-        let digits = put(out, offset, b"-");
-        return put_tenths(out, digits, (Temperature::ZERO - t.0) as u64);
+        text.put(b"-");
+        return put_tenths(text, (Temperature::ZERO - t.0) as u64);
     }
-    put_tenths(out, offset, (t.0 - Temperature::ZERO) as u64)
+    put_tenths(text, (t.0 - Temperature::ZERO) as u64);
 }

@@ -4,6 +4,7 @@ use mathlib.Core.Path.{◌≡◌, refl, sym, ap, ◌∙◌}
 use mathlib.Core.List.{List}
 use Prim.Native.Nat.{ℕ, zero, suc, ◌+◌, ◌*◌, ◌/◌, ◌%◌, ◌^◌, ◌≤◌, ◌<◌}
 use native.Mathlib.Nat.{pow-suc, pow-le-pow_right, div-one, add-zero, add-suc, zero-add, le_refl, div-eq_of_lt, div-div-eq-div-mul, div-add-mod'}
+use native.Mathlib.Numerals.{add-one}
 use native.Mathlib.Omega.{arith}
 use lib.ListN.{length, get_or, drop, replicate, get_or-replicate}
 use lib.Seq.{get_or-take, get_or-drop, take_all}
@@ -11,12 +12,16 @@ use Rattle.overlay.specs.Overlay.{part, overlay}
 use Rattle.overlay.proofs.Parts.{part_at}
 use Rattle.big_endian.specs.Bytes.{big_endian, bytes_of}
 
+-- a byte of a part
+pub byte_of_part : (b : List ℕ) (offset n i : ℕ) → i < n → get_or (part b offset n) i 0 ≡ get_or b (offset + i) 0
+byte_of_part b offset n i lt = rw (get_or-take n (drop offset b) i 0 lt) (get_or-drop offset b i 0)
+
 -- a number is read from its own bytes alone
 from_part : (b : List ℕ) (at n k : ℕ) → k ≤ n → big_endian b at k ≡ big_endian (part b at n) 0 k
 unfolding big_endian
 from_part b at n zero le = refl
 from_part b at n (suc k) le =
-    let byte : get_or (part b at n) (0 + k) 0 ≡ get_or b (at + k) 0 = rw (zero-add k, get_or-take n (drop at b) k 0 le) (get_or-drop at b k 0) in
+    let byte : get_or (part b at n) (0 + k) 0 ≡ get_or b (at + k) 0 = rw zero-add (byte_of_part b at n k le) in
     rw byte (ap (λ (x : ℕ). 256 * x + get_or b (at + k) 0) (from_part b at n k (omega arith)))
 
 pub same_number : (b c : List ℕ) (p q n : ℕ) → part b p n ≡ part c q n → big_endian b p n ≡ big_endian c q n
@@ -66,3 +71,6 @@ number_zeros size at (suc n) within =
 -- a number below a power of 256 with an exponent of at most 3
 pub below_power : (i n : ℕ) → i < 4 → n < 256 ^ i → n < 16_777_216
 below_power i n lt below = omega (arith, pow-le-pow_right {n = 256} (omega arith) {i = i} {j = 3} (omega arith))
+
+-- what a search takes for numbers in bytes
+pub ruleset numbers = (below_power, byte_of_part, add-one, pow-suc)

@@ -14,35 +14,28 @@ pub fn unsigned(bytes: &[u8], offset: usize) -> u64
 }
 
 // The number in width bytes from an offset on.
+#[tactic(auto, using(crate::proofs::Numerals::numbers), unfolding(crate::specs::Bytes::big_endian))]
 pub fn read_number(bytes: &[u8], offset: usize, width: usize) -> u64
     requires { (width ≤ 4) × (offset + width ≤ length bytes.now) }
     ensures { (result ≡ big_endian bytes.now offset width) × (result < 256 ^ width) }
 {
     let mut n = 0;
-    let mut i = 0;
-    while i < width {
-        n = 256 * n + wide(bytes[offset + i]);
-        i += 1;
+    for byte in &bytes[offset..offset + width] {
+        n = 256 * n + u64::from(*byte);
     }
     n
 }
 
-fn wide(byte: u8) -> u64
-    ensures { (result ≡ byte) × (result < 256) }
-{
-    byte as u64
-}
-
-// Writes n in width bytes from an offset on, the last byte first.
+// Writes n in width bytes from an offset on, the last byte first. By index: after a loop over `iter_mut` of the part, no proof of what it holds
+// closed.
+#[tactic(auto, using(overlay::proofs::Overlay::nothing), unfolding(crate::specs::Bytes::bytes_of))]
 pub fn write_number(bytes: &mut [u8], offset: usize, width: usize, n: u64)
     requires { offset + width ≤ length bytes.old }
     ensures { bytes.new ≡ overlay bytes.old offset (bytes_of width n) }
 {
-    let mut left = width;
     let mut rest = n;
-    while 0 < left {
-        left -= 1;
-        bytes[offset + left] = (rest % 256) as u8;
-        rest = rest / 256;
+    for i in (0..width).rev() {
+        bytes[offset + i] = (rest % 256) as u8;
+        rest /= 256;
     }
 }

@@ -1,13 +1,13 @@
 -- What filing and reading respond in a sound book, of which neither 31 nor 32 holds.
 -- Assumes nothing.
-use mathlib.Core.Path.{◌≡◌, refl}
+use mathlib.Core.Path.{◌≡◌}
 use mathlib.Core.Bool.{Bool, not}
 use mathlib.Core.List.{List, [], ◌∷◌, ◌++◌}
-use Prim.Native.Nat.{ℕ, ◌≤◌, ◌<◌}
+use Prim.Native.Nat.{ℕ, ◌<◌}
 use lib.Dec.{leb, eqb}
-use borrow.Author.Tests.{ne_eqb, le-leb, lt-leb}
+use borrow.Author.Tests.{ne_eqb, lt-leb}
 use Rattle.refusals.specs.Cases.{case}
-use Rattle.refusals.specs.Response.{refused, respond}
+use Rattle.refusals.specs.Response.{respond}
 use Rattle.refusals.proofs.Response.{later}
 use Rattle.sheet.specs.Answer.{answer}
 use Rattle.sheet.specs.Refusals.{cases, response_to}
@@ -33,11 +33,7 @@ module _ {l : Layout} {b : List ℕ} {sizes : Sizes} (is : SoundBook l b sizes) 
       reading l b e ≡ respond (case 33 (leb sizes.count e) ∷ case 35 (not (gives (response_to sheet) answer)) ∷ []) (sheet ++ answer)
   reading_sound e sheet_is answer_is = rw (is.count_is, sheet_is, answer_is) (later (book_cases l b) _ _ (unrefused l b is))
 
-  -- from the count on there is no entry, and below it case 35 decides
-  pub reading_beyond : (e : ℕ) → sizes.count ≤ e → reading l b e ≡ refused 33
-  unfolding respond
-  reading_beyond e beyond = rw (le-leb _ _ beyond) at (reading_sound e refl refl)
-
+  -- below the count there is an entry, and case 35 decides
   pub reading_below :
       (e : ℕ) {sheet answer : List ℕ} (right : Bool) → e < sizes.count → sheet ≡ stored_sheet l b e → answer ≡ stored_answer l b e →
       right ≡ gives (response_to sheet) answer → reading l b e ≡ respond (case 35 (not right) ∷ []) (sheet ++ answer)

@@ -1,73 +1,69 @@
-// The checks of a thickness, the bound on the surface's temperature, and a sheet's goal with its temperature difference.
+// The checks of a thickness and the bound on the surface's temperature, for an admitted sheet.
 #![tactic(auto)]
 
-mod goal;
+mod admitted;
 
 ghost use Rattle.std.specs.Prelude.{◌≡◌, ◌^◌, ◌≤◌};
 ghost use Rattle.fractions.specs.Fraction.{◌over◌};
 ghost use Rattle.fractions.specs.Rounding.{ceiling};
-ghost use Rattle.line.specs.Range.{LineInRange};
-ghost use Rattle.sheet.specs.Sheet.{difference as sheet_difference};
 ghost use Rattle.sheet.specs.Answer.{loss_check, surface_check, surface_difference, surface_bound};
-ghost use Rattle.sheet.specs.Admitted.{Admitted};
 
-use answer::LossCheck;
+pub use admitted::AdmittedSheet;
 use fractions::{Bounds, quotient};
-pub use goal::{difference_of, goal_of};
 use limits::{loss_limit, surface_limit};
-use line::Line;
+use line::OperatingLine;
 use requirement::{Goal, required};
-use sheet::Sheet;
 use temperatures::Temperature;
 use verdict::{Verdict, judge};
 
-// The loss check of a thickness whose have is `provided`. Here and below Δ is at hand.
-pub fn loss_check(sheet: Sheet, difference: u64, provided: Bounds) -> LossCheck
-    requires { Admitted sheet × (difference ≡ sheet_difference sheet) }
-    ensures { result ≡ loss_check sheet provided }
-{
-    let limit = loss_limit(sheet.service, sheet.temperature);
-    if limit == 0 {
-        return LossCheck::NonePrinted;
+// The checks of an admitted sheet, and the bound on its surface's temperature, at a thickness that provides `provided`.
+impl AdmittedSheet {
+    // The loss check, where a limit is printed.
+    #[tactic(auto, unfolding(sheet::specs::Answer::loss_check))]
+    pub fn loss_check(self, provided: Bounds) -> Option<Verdict>
+        ensures { result ≡ loss_check self.sheet provided }
+    {
+        let limit = loss_limit(self.sheet.service, self.sheet.temperature)?;
+        Some(judge(provided, required(self.at, Goal::Loss(limit))))
     }
-    LossCheck::Judged(judge(
-        provided,
-        required(sheet.line, difference, Goal::Loss(limit)),
-    ))
-}
 
-// Its surface check.
-pub fn surface_check(sheet: Sheet, difference: u64, provided: Bounds) -> Verdict
-    requires { Admitted sheet × (difference ≡ sheet_difference sheet) }
-    ensures { result ≡ surface_check sheet provided }
-{
-    let limit = surface_limit(sheet.ambient);
-    if sheet.temperature.0 <= limit.0 {
-        return Verdict::Sufficient;
+    // The surface check: a pipe that is itself no warmer than the limit is within it.
+    #[tactic(auto, unfolding(sheet::specs::Answer::surface_check))]
+    pub fn surface_check(self, provided: Bounds) -> Verdict
+        ensures { result ≡ surface_check self.sheet provided }
+    {
+        let limit = surface_limit(self.sheet.ambient);
+        if self.sheet.temperature <= limit {
+            return Verdict::Sufficient;
+        }
+        let goal = Goal::Surface((limit.0 - self.sheet.ambient.0) as u64);
+        judge(provided, required(self.at, goal))
     }
-    let goal = Goal::Surface((limit.0 - sheet.ambient.0) as u64);
-    judge(provided, required(sheet.line, difference, goal))
-}
 
-// The temperature that the surface does not lie beyond, as seen from the air.
-pub fn surface_bound(sheet: Sheet, difference: u64, provided: Bounds) -> Temperature
-    requires { Admitted sheet × (difference ≡ sheet_difference sheet) × (1 ≤ provided.lower) × (provided.lower ≤ 2 ^ 40) }
-    ensures { result ≡ surface_bound sheet provided }
-{
-    let flow = sheet.flow;
-    let most = surface_difference(sheet.line, difference, provided.lower);
-    flow.bound(sheet.temperature, sheet.ambient, difference, most)
+    // The temperature that the surface does not lie beyond, as seen from the air.
+    #[tactic(auto, unfolding(sheet::specs::Answer::surface_bound))]
+    pub fn surface_bound(self, provided: Bounds) -> Temperature
+        requires { (1 ≤ provided.lower) × (provided.lower ≤ 2 ^ 40) }
+        ensures { result ≡ surface_bound self.sheet provided }
+    {
+        let sheet = self.sheet;
+        let most = surface_difference(self.at, provided.lower);
+        sheet
+            .flow
+            .bound(sheet.temperature, sheet.ambient, self.at.difference, most)
+    }
 }
 
 // How far the surface lies beyond the air at the most: 2LΔ × 10⁷ / (α × under-have), and on a flat wall LΔ × 10⁷ / (α × under-have),
 // rounded up.
-fn surface_difference(line: Line, difference: u64, lower: u64) -> u64
-    requires { LineInRange line × (difference ≤ 7_000) × (1 ≤ lower) × (lower ≤ 2 ^ 40) }
-    ensures { result ≡ ceiling (surface_difference line difference (lower over 1)) }
+#[tactic(auto, unfolding(provision::specs::Provided::film))]
+fn surface_difference(at: OperatingLine, lower: u64) -> u64
+    requires { (1 ≤ lower) × (lower ≤ 2 ^ 40) }
+    ensures { result ≡ ceiling (surface_difference at.line.line at.difference (lower over 1)) }
 {
     quotient(
-        line.conduction(difference) * 10_000_000,
-        line.coefficient * lower,
+        at.conduction() * 10_000_000,
+        at.line.line.coefficient * lower,
     )
     .upper
 }

@@ -8,28 +8,24 @@ ghost use Rattle.book.specs.Book.{with_entry};
 
 use answer::Answer;
 use big_endian::write_number;
-use layout::{Layout, Sizes};
+use layout::{BookLayout, Sizes};
 use overlay::put;
 
-// Files a sheet with its answer where there is room.
-pub fn enter(layout: Layout, book: &mut [u8], sizes: Sizes, sheet: &[u8], answer: Answer)
-    requires sound_book { SoundBook layout book.old sizes }
-    requires fits { (sizes.count < sizes.capacity) × (length sheet.now ≡ layout.sheet) }
-    ensures { book.new ≡ with_entry layout book.old sheet.now (encoded answer) }
-{
-    store(layout, book, sizes, sheet, answer);
-}
-
-// Writes slot n of both arrays and raises the count by one.
-fn store(layout: Layout, book: &mut [u8], sizes: Sizes, sheet: &[u8], answer: Answer)
-    requires sound_book { SoundBook layout book.old sizes }
-    requires fits { (sizes.count < sizes.capacity) × (length sheet.now ≡ layout.sheet) }
-    ensures { book.new ≡ with_entry layout book.old sheet.now (encoded answer) }
+// Files a sheet with its answer where there is room: writes slot n of both arrays and raises the count by one.
+pub fn enter(layout: BookLayout, book: &mut [u8], sizes: Sizes, sheet: &[u8], answer: Answer)
+    requires sound_book { SoundBook layout.plain book.old sizes }
+    requires fits { (sizes.count < sizes.capacity) × (length sheet.now ≡ layout.plain.sheet) }
+    ensures { book.new ≡ with_entry layout.plain book.old sheet.now (encoded answer) }
 {
     let sheet_offset = layout.sheet_offset(sizes.count);
     let answer_offset = layout.answer_offset(sizes.capacity, sizes.count);
     let bytes = answer.encode();
     put(book, sheet_offset, sheet);
     put(book, answer_offset, &bytes);
-    write_number(book, layout.count_offset(), layout.width, sizes.count + 1);
+    write_number(
+        book,
+        layout.count_offset(),
+        layout.plain.width,
+        sizes.count + 1,
+    );
 }

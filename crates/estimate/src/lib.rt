@@ -3,48 +3,40 @@
 
 ghost use Rattle.std.specs.Prelude.{◌≤◌, ◌<◌};
 ghost use Rattle.lengths.specs.Ladder.{rungs};
-ghost use Rattle.line.specs.Range.{LineInRange};
 
 use fractions::Bounds;
 use lengths::{Diameter, Ladder};
-use line::Shape;
-use provision::Provision;
+use line::{CheckedLine, Shape};
 
 // About the index of the first rung that does not miss the need `required`: the rung nearest to the thickness that just provides it.
-pub fn likely_rung(p: Provision, required: Bounds) -> u64
-    requires { LineInRange p.line }
+// `film` is what the surface film provides.
+pub fn likely_rung(line: CheckedLine, film: Bounds, required: Bounds) -> u64
     ensures { result ≤ rungs }
 {
-    if required.lower <= p.film.upper {
-        return 0;
-    }
     // what the insulation has to provide, in micrometres
-    let rest = (required.lower - p.film.upper) / 1000;
+    let rest = required.lower.saturating_sub(film.upper) / 1000;
     // no rung provides 4 m
     if 4_000_000 <= rest {
         return Ladder::count();
     }
-    let rung = (likely_thickness(p, rest) + 5_000) / 10_000;
-    if rung < Ladder::count() {
-        rung
-    } else {
-        Ladder::count()
-    }
+    let rung = (likely_thickness(line, rest) + 5_000) / 10_000;
+    rung.min(Ladder::count())
 }
 
 // About the thickness at which insulation provides `rest`, both in micrometres.
-fn likely_thickness(p: Provision, rest: u64) -> u64
-    requires { LineInRange p.line × (rest < 4_000_000) }
+fn likely_thickness(line: CheckedLine, rest: u64) -> u64
+    requires { rest < 4_000_000 }
     ensures { result ≤ rest }
 {
-    match p.line.shape() {
-        Shape::Cylinder => around_pipe(p.line.diameter, rest),
+    match line.line.shape() {
+        Shape::Cylinder => around_pipe(line.line.diameter, rest),
         Shape::Flat => rest,
     }
 }
 
 // The same around a pipe of diameter d. With z = rest / d, the outer diameter is about d (1 + z factor / divisor), where the factor is
-// 1 + 0.376 z + 0.0044 z² and the divisor 1 + 0.783 z + 0.0215 z²: up to 300 mm within 1.7 per cent of the thickness.
+// 1 + 0.376 z + 0.0044 z² and the divisor 1 + 0.783 z + 0.0215 z²: up to 300 mm within 1.7 per cent of the thickness. The range of a diameter
+// is asked for here, since 01 asks for a tuple struct, which has no ghost field.
 fn around_pipe(d: Diameter, rest: u64) -> u64
     requires { (100 ≤ d.0) × (rest < 4_000_000) }
     ensures { result ≤ rest }

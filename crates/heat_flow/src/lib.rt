@@ -7,7 +7,7 @@ ghost use Rattle.heat_flow.specs.HeatFlow.{least_temperature, beyond as heat_flo
 use temperatures::Temperature;
 
 // Outward from a pipe that is warmer than the air, inward into one that is colder.
-#[derive(Clone, Copy)]
+#[derive(Clone, Copy, Debug, PartialEq, Eq)]
 pub enum HeatFlow {
     Outward,
     Inward,
@@ -30,8 +30,8 @@ impl HeatFlow {
         ensures { result ≡ heat_flow_beyond self x y }
     {
         match self {
-            HeatFlow::Outward => y.0 < x.0,
-            HeatFlow::Inward => x.0 < y.0,
+            HeatFlow::Outward => y < x,
+            HeatFlow::Inward => x < y,
         }
     }
 

@@ -1,14 +1,54 @@
--- The pairs of digits of a text, two bytes at a time.
+-- The bytes that a text writes, two digits at a time.
 -- Assumes nothing.
-use Rattle.std.proofs.Common.{◌≡◌, ℕ, suc, ◌+◌, ◌<◌, List, [], ◌∷◌, ◌++◌, Option, length, drop, arith, drop-cons}
-use Rattle.hexadecimal.specs.Hex.{and_then, pairs, byte_at}
-use Rattle.hexadecimal.specs.declared.Parsed.{Parsed}
+use Rattle.std.proofs.Common.{◌≡◌, ℕ, ◌%◌, ◌<◌, ◌≤◌, Bool, true, false, cond, List, [], ◌∷◌, ◌++◌, Option, Some, None, length, get_or, leb, refl, arith}
+use Rattle.std.specs.Option.{option_and_then}
+use borrow.Author.Tests.{le-leb, lt-leb}
+use Rattle.hexadecimal.specs.Hex.{digit_of, byte_of, pairs, bytes_of}
 
--- the next two digits of a text
-pub step : {whole : Option (List ℕ)} {p : Parsed} (bytes text : List ℕ) (offset : ℕ) → offset + 1 < length text → whole ≡ pairs bytes (drop offset text) →
-    p ≡ byte_at text offset → whole ≡ and_then p (λ b. pairs (bytes ++ b ∷ []) (drop (offset + 2) text))
+nothing : (next : ℕ → Option (List ℕ)) (o : Option ℕ) → ((b : ℕ) → next b ≡ None) → option_and_then next o ≡ None
+nothing next None none = refl
+nothing next (Some b) none = none b
+
+-- a digit that is left over
+odd : (bytes text : List ℕ) → length text % 2 ≡ 1 → pairs bytes text ≡ None
 unfolding pairs
-step bytes text offset h e f =
-    let one : offset + 1 ≡ suc offset = omega arith in
-    let two : offset + 2 ≡ suc (suc offset) = omega arith in
-    rw (e, f, one, two, drop-cons text offset 0 (omega arith), drop-cons text (suc offset) 0 (omega arith))
+odd bytes [] one = absurd (omega arith)
+odd bytes (digit ∷ []) one = refl
+odd bytes (high ∷ low ∷ rest) one = nothing (λ b. pairs (bytes ++ b ∷ []) rest) (byte_of (digit_of high) (digit_of low)) (λ b. odd (bytes ++ b ∷ []) rest (omega arith))
+
+pub bytes_of-short : (text : List ℕ) → length text ≤ 128 → bytes_of text ≡ pairs [] text
+unfolding bytes_of
+bytes_of-short text short = simp (bytes_of, le-leb _ _ short)
+
+pub bytes_of-long : (text : List ℕ) → 128 < length text → bytes_of text ≡ None
+unfolding bytes_of
+bytes_of-long text long = simp (bytes_of, lt-leb _ _ long)
+
+same : (o : Option (List ℕ)) (b : Bool) → cond b o o ≡ o
+same o true = refl
+same o false = refl
+
+pub bytes_of-odd : (text : List ℕ) → length text % 2 ≡ 1 → bytes_of text ≡ None
+unfolding bytes_of
+bytes_of-odd text one = rw (odd [] text one) (same None (leb (length text) 128))
+
+pub pairs-end : (bytes text : List ℕ) → length text ≡ 0 → pairs bytes text ≡ Some bytes
+unfolding pairs
+pairs-end bytes [] none = refl
+pairs-end bytes (x ∷ rest) none = absurd (omega arith)
+
+-- the next two digits
+step : (bytes digits rest : List ℕ) → length digits ≡ 2 →
+    pairs bytes (digits ++ rest) ≡ option_and_then (λ b. pairs (bytes ++ b ∷ []) rest) (byte_of (digit_of (get_or digits 0 0)) (digit_of (get_or digits 1 0)))
+unfolding pairs
+step bytes [] rest two = absurd (omega arith)
+step bytes (high ∷ []) rest two = absurd (omega arith)
+step bytes (high ∷ low ∷ []) rest two = refl
+step bytes (high ∷ low ∷ x ∷ more) rest two = absurd (omega arith)
+
+pub pairs-step : {all : List ℕ} {o : Option ℕ} (bytes digits rest : List ℕ) → all ≡ digits ++ rest → length digits ≡ 2 →
+    o ≡ byte_of (digit_of (get_or digits 0 0)) (digit_of (get_or digits 1 0)) → pairs bytes all ≡ option_and_then (λ b. pairs (bytes ++ b ∷ []) rest) o
+pairs-step bytes digits rest parts two is = rw (parts, is) (step bytes digits rest two)
+
+-- what a search takes for the bytes of a text
+pub ruleset laws = (bytes_of-odd, bytes_of-long, bytes_of-short, pairs-end, pairs-step)

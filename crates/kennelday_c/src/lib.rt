@@ -1,4 +1,5 @@
-// The static library of the calls for Rust and C: each function is the one of that name in `kennelday`, and promises what it promises.
+// The static library of the calls for Rust and C: each function is the one of that name in `kennelday`, and promises what it promises. The C
+// interface has each contract stated twice: an export stands in a static library, which no crate can use.
 #![tactic(auto)]
 
 ghost use Rattle.std.specs.Prelude.{◌≡◌};

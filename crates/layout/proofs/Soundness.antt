@@ -1,35 +1,29 @@
--- Books of which neither 31 nor 32 holds, and what an examination says of a book.
+-- Books of which neither 31 nor 32 holds.
 -- Assumes nothing.
-use mathlib.Core.Path.{◌≡◌, refl, sym}
+use mathlib.Core.Path.{◌≡◌, refl}
 use mathlib.Core.Bool.{false}
-use mathlib.Core.List.{List, [], ◌∷◌, ◌++◌}
+use mathlib.Core.List.{List}
 use Prim.Native.Nat.{ℕ, ◌≤◌}
 use native.Mathlib.Omega.{arith}
 use lib.Dec.{ltb}
 use lib.ListN.{length}
 use borrow.Author.Tests.{ltb-false, le-ltb, eqb-true, eq-eqb, not-false}
-use Rattle.refusals.specs.declared.Refusal.{Refusal}
-use Rattle.refusals.specs.Numbers.{number_of}
-use Rattle.refusals.specs.Cases.{Case, NoneHolds}
+use Rattle.std.proofs.lemmas.Bool.{or_parts}
+use Rattle.refusals.specs.Cases.{NoneHolds}
 use Rattle.refusals.specs.Range.{outside}
-use Rattle.refusals.specs.Response.{refused, respond}
-use Rattle.refusals.proofs.Range.{or_false_both, inside}
-use Rattle.refusals.proofs.Response.{in_front, completed}
+use Rattle.refusals.proofs.Range.{inside}
 use Rattle.layout.specs.declared.offsets.Layout.{Layout}
 use Rattle.layout.specs.declared.examination.Sizes.{Sizes}
-use Rattle.layout.specs.declared.examination.Examination.{Examination}
-use Rattle.layout.specs.declared.examination.Examination.TheVariants.{Damaged, Sound}
 use Rattle.layout.specs.Layout.{header, bytes_for}
 use Rattle.layout.specs.Sizes.{capacity, count}
 use Rattle.layout.specs.Refusals.{wrong_size, book_cases}
-use Rattle.layout.specs.Examination.{examined}
 use Rattle.layout.specs.Usable.{Usable}
 use Rattle.layout.specs.SoundBook.{SoundBook}
 
 module _ (l : Layout) where
   pub right_size : (size c : ℕ) → wrong_size l size c ≡ false → (1 ≤ c) × (c ≤ l.largest) × (size ≡ bytes_for l c)
   right_size size c e =
-      let rest = or_false_both (outside c 1 l.largest) _ (or_false_both (ltb size (header l)) _ e).1 in
+      let rest = or_parts (outside c 1 l.largest) _ (or_parts (ltb size (header l)) _ e).1 in
       let ends = inside c 1 l.largest rest.0 in
       (ends.0, ends.1, eqb-true _ _ (not-false _ rest.1))
 
@@ -46,14 +40,3 @@ module _ (l : Layout) where
         rw (← is.capacity_is, ← is.count_is)
         (let short : ltb (length b) (header l) ≡ false = le-ltb (length b) (header l) (omega arith) in
         rw (short, le-ltb _ _ is.some, le-ltb _ _ is.most, eq-eqb _ _ is.size) (refl, (le-ltb _ _ is.counted, tt)))
-
-    -- an examination that finds the book damaged, and one that finds it sound
-    module _ (said : Examination) (told : examined said ≡ respond (book_cases l b) (capacity l b ∷ count l b ∷ [])) where
-      pub damaged : {why : Refusal} → said ≡ Damaged why → (rest : List Case) (bytes : List ℕ) → respond (book_cases l b ++ rest) bytes ≡ refused (number_of why)
-      damaged is rest bytes = in_front (book_cases l b) rest _ bytes _ (sym (rw is at told))
-
-      pub undamaged : {sizes : Sizes} → said ≡ Sound sizes → Usable l → SoundBook l b sizes
-      undamaged {sizes} is usable =
-          let got = completed (book_cases l b) _ _ (sym (rw is at told)) in
-          let same : (capacity l b ∷ count l b ∷ []) ≡ (sizes.capacity ∷ sizes.count ∷ []) = got.1 in
-          sound sizes usable got.0 (cc) (cc)

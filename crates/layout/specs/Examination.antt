@@ -1,12 +1,11 @@
 -- What an examination of a book says.
 -- Assumes nothing.
-use Rattle.std.specs.Prelude.{[], ◌∷◌}
-use Rattle.refusals.specs.Numbers.{number_of}
-use Rattle.refusals.specs.Response.{Response, refused, complete}
-use Rattle.layout.specs.declared.examination.Examination.{Examination}
-use Rattle.layout.specs.declared.examination.Examination.TheVariants.{Damaged, Sound}
+use Rattle.std.specs.Prelude.{Result, [], ◌∷◌}
+use Rattle.refusals.specs.declared.Refusal.{Refusal}
+use Rattle.refusals.specs.Response.{Response}
+use Rattle.refusals.specs.Returned.{response_of}
+use Rattle.layout.specs.declared.book.Book.{Book}
 
 -- its refusal, or the two sizes
-abbrev pub examined : Examination → Response
-examined (Damaged why) = refused (number_of why)
-examined (Sound sizes) = complete (sizes.capacity ∷ sizes.count ∷ [])
+abbrev pub examined : Result Book Refusal → Response
+examined = response_of (λ b. b.sizes.capacity ∷ b.sizes.count ∷ [])

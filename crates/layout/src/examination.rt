@@ -1,48 +1,45 @@
 // Whether a book is sound.
-ghost use Rattle.std.specs.Prelude.{◌≡◌, [], ◌∷◌};
+ghost use Rattle.std.specs.Prelude.{◌≡◌, [], ◌∷◌, IfOk};
 ghost use Rattle.refusals.specs.Response.{respond};
 ghost use Rattle.layout.specs.Sizes.{capacity as sizes_capacity, count as sizes_count};
 ghost use Rattle.layout.specs.Refusals.{book_cases};
 ghost use Rattle.layout.specs.Examination.{examined};
-ghost use Rattle.layout.specs.Usable.{Usable};
 
-use crate::offsets::Layout;
+use crate::book::Book;
+use crate::offsets::BookLayout;
 use big_endian::read_number;
 use refusals::Refusal;
 
-#[derive(Clone, Copy)]
+#[derive(Clone, Copy, Debug, PartialEq, Eq)]
 pub struct Sizes {
     pub capacity: u64,
     pub count: u64,
 }
 
-#[derive(Clone, Copy)]
-pub enum Examination {
-    Damaged(Refusal),
-    Sound(Sizes),
-}
-
-impl Layout {
-    // The sizes of a book, or what is wrong with them.
+impl BookLayout {
+    // The book that these bytes are, or what is wrong with its sizes.
     #[tactic(auto, unfolding(refusals::specs::Response::respond))]
-    pub fn examine(self, book: &[u8]) -> Examination
-        requires { Usable self }
-        ensures { examined result ≡ respond (book_cases self book.now) (sizes_capacity self book.now ∷ sizes_count self book.now ∷ []) }
+    pub fn examine(self, bytes: &[u8]) -> Result<Book<'_>, Refusal>
+        ensures response { let l = self.plain in
+            let b = bytes.now in
+            examined result ≡ respond (book_cases l b) (sizes_capacity l b ∷ sizes_count l b ∷ []) }
+        ensures same { IfOk result (λ b. (b.layout ≡ self) × (b.bytes.now ≡ bytes.now)) }
     {
-        if book.len() < self.header() {
-            return Examination::Damaged(Refusal::BookSize);
+        if bytes.len() < self.header() {
+            return Err(Refusal::BookSize);
         }
-        let capacity = read_number(book, self.lead, self.width);
-        let count = read_number(book, self.count_offset(), self.width);
-        if self.wrong_size(book.len(), capacity) {
-            return Examination::Damaged(Refusal::BookSize);
+        let capacity = read_number(bytes, self.plain.lead, self.plain.width);
+        let count = read_number(bytes, self.count_offset(), self.plain.width);
+        if self.wrong_size(bytes.len(), capacity) {
+            return Err(Refusal::BookSize);
         }
         if capacity < count {
-            return Examination::Damaged(Refusal::CountAboveCapacity);
+            return Err(Refusal::CountAboveCapacity);
         }
-        Examination::Sound(Sizes {
-            capacity: capacity,
-            count: count,
+        Ok(Book {
+            layout: self,
+            bytes,
+            sizes: Sizes { capacity, count },
         })
     }
 }

@@ -7,7 +7,7 @@ ghost use Rattle.layout.specs.Usable.{Usable};
 use refusals::outside;
 
 // The bytes before the sizes, the bytes of a size, the largest capacity, and the bytes of a sheet.
-#[derive(Clone, Copy)]
+#[derive(Clone, Copy, Debug, PartialEq, Eq)]
 pub struct Layout {
     pub lead: usize,
     pub width: usize,
@@ -15,59 +15,62 @@ pub struct Layout {
     pub sheet: usize,
 }
 
-impl Layout {
-    pub fn standard() -> Layout
-        ensures { result ≡ layout_standard }
+// A layout whose sizes and offsets fit.
+#[derive(Clone, Copy, Debug, PartialEq, Eq)]
+pub struct BookLayout {
+    pub plain: Layout,
+    pub ghost usable: { Usable plain },
+}
+
+impl BookLayout {
+    pub fn standard() -> BookLayout
+        ensures { result.plain ≡ layout_standard }
     {
-        Layout {
-            lead: 0,
-            width: 2,
-            largest: 1_000,
-            sheet: 24,
+        BookLayout {
+            plain: Layout {
+                lead: 0,
+                width: 2,
+                largest: 1_000,
+                sheet: 24,
+            },
         }
     }
 
-    // Where the count stands, and where the sizes end.
+    // Where the count stands.
     pub fn count_offset(self) -> usize
-        requires { Usable self }
-        ensures { result ≡ count_offset self }
+        ensures { result ≡ count_offset self.plain }
     {
-        self.lead + self.width
+        self.plain.lead + self.plain.width
     }
 
+    // Where the sizes end.
     pub(crate) fn header(self) -> usize
-        requires { Usable self }
-        ensures { result ≡ layout_header self }
+        ensures { result ≡ layout_header self.plain }
     {
-        self.count_offset() + self.width
+        self.count_offset() + self.plain.width
     }
 
     // Where an entry's sheet stands, and its answer in a book of this capacity.
     pub fn sheet_offset(self, entry: u64) -> usize
-        requires { Usable self × (entry ≤ self.largest) }
-        ensures { result ≡ sheet_offset self entry }
+        requires { entry ≤ self.plain.largest }
+        ensures { result ≡ sheet_offset self.plain entry }
     {
-        self.header() + self.sheet * entry as usize
+        self.header() + self.plain.sheet * entry as usize
     }
 
     pub fn answer_offset(self, capacity: u64, entry: u64) -> usize
-        requires { Usable self × (capacity ≤ self.largest) × (entry ≤ capacity) }
-        ensures { result ≡ answer_offset self capacity entry }
+        requires { (capacity ≤ self.plain.largest) × (entry ≤ capacity) }
+        ensures { result ≡ answer_offset self.plain capacity entry }
     {
         self.sheet_offset(capacity) + 8 * entry as usize
     }
 
     // Whether bytes of this length cannot be a book of this capacity.
     pub fn wrong_size(self, size: usize, capacity: u64) -> bool
-        requires { Usable self }
-        ensures { result ≡ wrong_size self size capacity }
+        ensures { result ≡ wrong_size self.plain size capacity }
     {
-        if size < self.header() {
-            return true;
-        }
-        if outside(capacity, 1, self.largest) {
-            return true;
-        }
-        size != self.answer_offset(capacity, capacity)
+        size < self.header()
+            || outside(capacity, 1, self.plain.largest)
+            || size != self.answer_offset(capacity, capacity)
     }
 }

@@ -4,7 +4,7 @@ ghost use Rattle.lengths.specs.Ladder.{rungs, thickness_at};
 
 use crate::Thickness;
 
-#[derive(Clone, Copy)]
+#[derive(Clone, Copy, Debug, PartialEq, Eq)]
 pub struct Ladder;
 
 impl Ladder {
@@ -26,10 +26,7 @@ impl Ladder {
     pub fn thickness(r: u64) -> Thickness
         ensures { result ≡ thickness_at r }
     {
-        if r < Self::RUNGS {
-            Thickness(Self::GRADE * r as u16)
-        } else {
-            Thickness(Self::TOP)
-        }
+        let last = Self::RUNGS - 1;
+        Thickness(Self::GRADE * r.min(last) as u16)
     }
 }

@@ -1,101 +1,90 @@
 // The call that answers a sheet.
-ghost use Rattle.std.specs.Prelude.{◌≡◌, ◌++◌, ◌<◌};
-ghost use Rattle.lengths.specs.Ladder.{rungs, thickness_at};
+ghost use Rattle.std.specs.Prelude.{◌≡◌, ◌<◌, IfOk, IfErr};
+ghost use Rattle.lengths.specs.Ladder.{thickness_at, rungs};
+ghost use Rattle.refusals.specs.Cases.{NoneHolds, FirstHolds};
+ghost use Rattle.refusals.specs.Numbers.{number_of};
 ghost use Rattle.refusals.specs.Response.{respond};
-ghost use Rattle.provision.specs.Provided.{provided as provided_by};
-ghost use Rattle.sheet.specs.Sheet.{difference as sheet_difference, goal_of};
-ghost use Rattle.sheet.specs.Search.{required_of, chosen};
+ghost use Rattle.provision.specs.Provided.{provided};
+ghost use Rattle.sheet.specs.Search.{chosen};
 ghost use Rattle.answer.specs.Answer.{encoded};
 ghost use Rattle.sheet.specs.Answer.{answer_of};
 ghost use Rattle.sheet.specs.Refusals.{value_cases, ladder_cases, response_to};
 ghost use Rattle.outcome.specs.Outcome.{response};
-ghost use Rattle.sheet.specs.Admitted.{Admitted};
 
 use answer::Answer;
-use checks::{difference_of, goal_of, loss_check, surface_bound, surface_check};
-use fractions::Bounds;
+use checks::AdmittedSheet;
 use lengths::Ladder;
 use provision::Provision;
 use refusals::Refusal;
 use requirement::required;
 use sheet::Sheet;
-use verdict::{Choice, judge, search};
-
-#[derive(Clone, Copy)]
-pub enum Outcome {
-    Refused(Refusal),
-    Answered(Answer),
-}
+use verdict::{Rung, judge, search};
 
 // Works out the sheet that these bytes are.
-pub fn work_out(bytes: &[u8]) -> Outcome
+pub fn work_out(bytes: &[u8]) -> Result<Answer, Refusal>
     ensures { response result ≡ response_to bytes.now }
 {
     let wrong = bytes.len() != 24;
     if wrong {
-        return Outcome::Refused(Refusal::SheetLength);
+        return Err(Refusal::SheetLength);
     }
-    work_out_sheet(Sheet::decode(bytes))
-}
-
-// Works out a sheet by its fields: the tests, in the order of the refusals.
-fn work_out_sheet(sheet: Sheet) -> Outcome
-    ensures { response result ≡ respond (value_cases sheet ++ ladder_cases sheet) (encoded (answer_of sheet (chosen sheet))) }
-{
-    if sheet.code_fault().found() {
-        return Outcome::Refused(Refusal::UnknownCode);
-    }
-    if sheet.range_fault().found() {
-        return Outcome::Refused(Refusal::OutOfRange);
-    }
-    if sheet.zero_fault().found() {
-        return Outcome::Refused(Refusal::NotZero);
-    }
-    let flow = sheet.flow;
-    if !flow.beyond(sheet.temperature, sheet.ambient) {
-        return Outcome::Refused(Refusal::NoDrivingDifference);
-    }
-    if sheet.invalid_aim() {
-        return Outcome::Refused(Refusal::InvalidAim);
-    }
+    let sheet = admit(Sheet::decode(bytes))?;
     search_ladder(sheet)
 }
 
-// Tries the ladder for an admitted sheet.
-fn search_ladder(sheet: Sheet) -> Outcome
-    requires { Admitted sheet }
-    ensures { response result ≡ respond (ladder_cases sheet) (encoded (answer_of sheet (chosen sheet))) }
+// Admits a sheet by its fields: the tests, in the order of the refusals.
+#[tactic(auto, unfolding(refusals::specs::Cases::NoneHolds, refusals::specs::Cases::FirstHolds))]
+fn admit(sheet: Sheet) -> Result<AdmittedSheet, Refusal>
+    ensures admitted { IfOk result (λ a. (a.sheet ≡ sheet) × NoneHolds (value_cases sheet)) }
+    ensures refused { IfErr result (λ why. FirstHolds (number_of why) (value_cases sheet)) }
 {
-    let difference = difference_of(sheet);
-    let need = required(sheet.line, difference, goal_of(sheet));
-    match search(Provision::of(sheet.line), need) {
-        Choice::AllInsufficient => Outcome::Refused(Refusal::NoneSufficient),
-        Choice::Rung(r, provided) => judge_rung(sheet, difference, need, r, provided),
+    let unknown = sheet.code_fault().is_some();
+    if unknown {
+        return Err(Refusal::UnknownCode);
     }
+    let outside = sheet.range_fault().is_some();
+    if outside {
+        return Err(Refusal::OutOfRange);
+    }
+    let not_zero = sheet.zero_fault().is_some();
+    if not_zero {
+        return Err(Refusal::NotZero);
+    }
+    let driven = sheet.flow.beyond(sheet.temperature, sheet.ambient);
+    if !driven {
+        return Err(Refusal::NoDrivingDifference);
+    }
+    let invalid = sheet.invalid_aim();
+    if invalid {
+        return Err(Refusal::InvalidAim);
+    }
+    Ok(AdmittedSheet::of(sheet))
 }
 
-// Judges the first rung that does not miss: its index is r, and its have `provided`.
-fn judge_rung(sheet: Sheet, difference: u64, need: Bounds, r: u64, provided: Bounds) -> Outcome
-    requires admitted { Admitted sheet × (difference ≡ sheet_difference sheet) × (need ≡ required_of sheet (goal_of sheet)) }
-    requires first_rung { (r ≡ chosen sheet) × (r < rungs) × (provided ≡ provided_by sheet.line (thickness_at r)) }
-    ensures { response result ≡ respond (ladder_cases sheet) (encoded (answer_of sheet (chosen sheet))) }
+// Tries the ladder: the first rung that does not miss has to meet.
+fn search_ladder(sheet: AdmittedSheet) -> Result<Answer, Refusal>
+    ensures { response result ≡ respond (ladder_cases sheet.sheet) (encoded (answer_of sheet.sheet (chosen sheet.sheet))) }
 {
-    if judge(provided, need).is_undecided() {
-        return Outcome::Refused(Refusal::TooClose);
+    let need = required(sheet.at, sheet.goal());
+    let rung = search(Provision::of(sheet.at.line), need).ok_or(Refusal::NoneSufficient)?;
+    let open = judge(rung.provided, need).is_undecided();
+    if open {
+        return Err(Refusal::TooClose);
     }
-    Outcome::Answered(answer_of(sheet, difference, r, provided))
+    Ok(answer_of(sheet, rung))
 }
 
-// The answer with the rung of index r, whose have is `provided`.
-fn answer_of(sheet: Sheet, difference: u64, r: u64, provided: Bounds) -> Answer
-    requires { Admitted sheet × (difference ≡ sheet_difference sheet) × (provided ≡ provided_by sheet.line (thickness_at r)) }
-    ensures { result ≡ answer_of sheet r }
+// The answer with a rung.
+#[tactic(auto, using(provision::proofs::Sizes::provided_size), unfolding(sheet::specs::Answer::answer_of))]
+fn answer_of(sheet: AdmittedSheet, rung: Rung) -> Answer
+    requires { (rung.index < rungs) × (rung.provided ≡ provided sheet.sheet.line (thickness_at rung.index)) }
+    ensures { result ≡ answer_of sheet.sheet rung.index }
 {
     Answer {
-        shape: sheet.line.shape(),
-        thickness: Ladder::thickness(r),
-        loss: loss_check(sheet, difference, provided),
-        surface: surface_check(sheet, difference, provided),
-        bound: surface_bound(sheet, difference, provided),
+        shape: sheet.sheet.line.shape(),
+        thickness: Ladder::thickness(rung.index),
+        loss: sheet.loss_check(rung.provided),
+        surface: sheet.surface_check(rung.provided),
+        bound: sheet.surface_bound(rung.provided),
     }
 }

@@ -1,6 +1,6 @@
 -- Laws of bytes put over bytes.
 -- Assumes nothing.
-use mathlib.Core.Path.{◌≡◌, sym, ap, ◌∙◌}
+use mathlib.Core.Path.{◌≡◌, ap, ◌∙◌}
 use mathlib.Core.List.{List, [], ◌∷◌, ◌++◌, append_assoc, append-nil}
 use Prim.Native.Nat.{ℕ, zero, suc, ◌+◌, ◌-◌, ◌≤◌}
 use native.Mathlib.Nat.{add-zero, zero-add, suc-add}
@@ -33,11 +33,12 @@ put_back b offset v part fits is =
     let size : offset + length v - offset ≡ length v = omega arith in
     rw (is, size, drop-drop, ← append_assoc)
 
--- no piece at all, and one piece after another
-pub nothing : (b : List ℕ) (offset : ℕ) → Written b offset [] b offset
+-- no piece at all
+pub nothing : (b : List ℕ) (offset : ℕ) → overlay b offset [] ≡ b
 unfolding overlay
-nothing b offset = record { end = omega arith; bytes = sym (rw (add-zero, append-nil) (take-append-drop offset b)) }
+nothing b offset = rw (add-zero, append-nil) (take-append-drop offset b)
 
+-- one piece after another
 pub then : {b v c w d : List ℕ} {offset e f : ℕ} → Written b offset v c e → Written c e w d f → Written b offset (v ++ w) d f
 then {b} {v} {w = w} {offset = offset} first second =
     record { end = omega (arith, length-append v w); bytes = second.bytes ∙ rw (first.bytes, first.end) (overlay_more b offset v w) }

@@ -9,9 +9,6 @@ use lib.ListN.{length, take, drop, length-append, length-take, length-drop}
 use lib.Seq.{length-take-le, take-append_seam, take-append-le, take-take, drop_at, drop-drop}
 use Rattle.overlay.specs.Overlay.{part, overlay}
 
-pub length_part : (b : List ℕ) (offset n : ℕ) → offset + n ≤ length b → length (part b offset n) ≡ n
-length_part b offset n within = length-take-le n (drop offset b) (omega (arith, length-drop offset b))
-
 module _ (b : List ℕ) (offset : ℕ) (v : List ℕ) where
   pub length_overlay : offset + length v ≤ length b → length (overlay b offset v) ≡ length b
   unfolding overlay

@@ -16,7 +16,7 @@ use Rattle.verdict.specs.declared.Verdict.TheVariants.{Sufficient}
 use Rattle.limits.specs.Limits.{surface_limit}
 use Rattle.limits.proofs.Rows.{none_below}
 use Rattle.limits.proofs.SurfaceLimit.{limit_above}
-use Rattle.answer.specs.declared.LossCheck.TheVariants.{NonePrinted}
+use Rattle.std.specs.Prelude.{None}
 use Rattle.answer.specs.Answer.{loss_code, check_code}
 use Rattle.sheet.specs.declared.fields.Sheet.{Sheet}
 use Rattle.sheet.specs.Sheet.{decoded, goal_of}
@@ -32,7 +32,7 @@ module _ (s : Sheet) (cold : s.flow ≡ Inward) (in_range : Admitted s) (p : Bou
   colder : s.temperature.0 < s.ambient.0
   colder = omega (arith, rw cold at in_range.difference_from)
 
-  no_loss_limit : loss_check s p ≡ NonePrinted
+  no_loss_limit : loss_check s p ≡ None
   unfolding loss_check
   no_loss_limit = rw (none_below s.service s.temperature (omega (arith, colder, in_range.ambient_to)))
 

@@ -8,8 +8,8 @@ use Rattle.quadrature.specs.Sums.{total}
 use Rattle.lengths.specs.declared.units.Diameter.{Diameter}
 use Rattle.lengths.specs.declared.units.Thickness.{Thickness}
 use Rattle.lengths.specs.Units.{outer_diameter}
-use Rattle.quadrature.specs.Figures.{lower_step, lower_log}
-use Rattle.logarithm.proofs.Steps.{Small, log_small, lower_small}
+use Rattle.quadrature.specs.Figures.{lower_step, upper_step, lower_log, upper_log}
+use Rattle.logarithm.proofs.Steps.{Small, log_small, lower_small, upper_small}
 use Rattle.line.specs.declared.Line.{Line}
 use Rattle.line.specs.declared.Shape.{Shape}
 use Rattle.line.specs.declared.Shape.TheVariants.{Cylinder, Flat}
@@ -24,6 +24,19 @@ cylinder_small f small {D} {e} {k} {log} from to le outer is =
     let wide : e.0 ≤ 16_000 = rw outer (omega arith) in
     let long : log ≤ 16_000 * 10 ^ 10 = omega (arith, log_small f small {d = D.0} e.0 from) in
     mul-le-mul wide long
+
+-- the insulation
+insulation_fits_by : (s : Shape) (D : Diameter) (k : Thickness) → 100 ≤ D.0 → (s ≡ Cylinder → D.0 ≤ 10_000) → k.0 ≤ 300 → ((insulation_bounds s D k).lower ≤ 2 ^ 62) × ((insulation_bounds s D k).upper ≤ 2 ^ 62)
+unfolding insulation insulation_bounds
+insulation_fits_by Cylinder D k from to le =
+    let e = outer_diameter D k in
+    let lower = cylinder_small lower_step lower_small {k = k} from (to refl) le refl refl in
+    let upper = cylinder_small upper_step upper_small {k = k} from (to refl) le refl refl in
+    (omega (arith, lower, div-le_self (e.0 * lower_log D e) (10 ^ 7)), omega (arith, upper, div-le_self (e.0 * upper_log D e + (10 ^ 7 - 1)) (10 ^ 7)))
+insulation_fits_by Flat D k from to le = (omega arith, omega arith)
+
+pub insulation_fits : (l : Line) (k : Thickness) → LineInRange l → k.0 ≤ 300 → ((insulation_bounds (shape_of l) l.diameter k).lower ≤ 2 ^ 62) × ((insulation_bounds (shape_of l) l.diameter k).upper ≤ 2 ^ 62)
+insulation_fits l k range le = insulation_fits_by (shape_of l) l.diameter k range.diameter_from (cylinder_diameter l) le
 
 -- the film
 pub film_small : (l : Line) → LineInRange l → ((film_bounds l).lower ≤ 2 ^ 62) × ((film_bounds l).upper ≤ 2 ^ 62)

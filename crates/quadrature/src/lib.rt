@@ -10,6 +10,7 @@ use fractions::{Bounds, quotient};
 const TERA: u64 = 1_000_000_000_000;
 
 // The step from i to i + 1, rounded down and rounded up.
+#[tactic(auto, unfolding(crate::specs::Figures::lower_step, crate::specs::Figures::upper_step))]
 pub fn step(i: u64) -> Bounds
     requires { (1 ≤ i) × (i < 16000) }
     ensures { result ≡ step_bounds i }

@@ -45,13 +45,6 @@ first_at k [] bytes none e = cc
 first_at zero (c ∷ cs) bytes none e = rw e
 first_at (suc k) (c ∷ cs) bytes none e = rw none.0 (first_at k cs bytes none.1 e)
 
--- the next case fails too
-pub none_more : (k : ℕ) (cs : List Case) → NoneHolds (take k cs) → (nth k cs).holds ≡ false → NoneHolds (take (suc k) cs)
-unfolding NoneHolds
-none_more k [] none e = tt
-none_more zero (c ∷ cs) none e = (e, tt)
-none_more (suc k) (c ∷ cs) none e = (none.0, none_more k cs none.1 e)
-
 -- no case of the list has the number n
 unfoldable pub absent : ℕ → List Case → Bool
 absent n [] = true
@@ -62,6 +55,13 @@ pub in_front : (cs ds : List Case) (x y : List ℕ) (n : ℕ) → respond cs x �
 unfolding respond
 in_front [] ds x y n e = cc
 in_front (c ∷ cs) ds x y n e = elim (dichotomy c.holds) [ inr t ↦ rw t (rw t at e) | inl f ↦ rw f (in_front cs ds x y n (rw f at e)) ]
+
+-- the first case that holds is the one that counts, whatever stands behind it
+pub first_counts : (n : ℕ) (cs ds : List Case) (bytes : List ℕ) → FirstHolds n cs → respond (cs ++ ds) bytes ≡ refused n
+unfolding FirstHolds respond
+first_counts n [] ds bytes first = absurd first
+first_counts n (c ∷ cs) ds bytes (inl here) = rw (here.0, here.1)
+first_counts n (c ∷ cs) ds bytes (inr behind) = rw behind.0 (first_counts n cs ds bytes behind.1)
 
 -- A number that no case in front has: none in front holds.
 pub behind : (n : ℕ) (cs ds : List Case) (bytes : List ℕ) → absent n cs ≡ true → respond (cs ++ ds) bytes ≡ refused n → NoneHolds cs × (respond ds bytes ≡ refused n)

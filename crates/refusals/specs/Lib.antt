@@ -2,4 +2,4 @@ pub mod Numbers
 pub mod Range
 pub mod Cases
 pub mod Response
-pub mod Completion
+pub mod Returned

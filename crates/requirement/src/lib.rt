@@ -2,17 +2,16 @@
 #![tactic(auto)]
 
 ghost use Rattle.std.specs.Prelude.{◌≡◌, ◌*◌, ◌≤◌, ◌<◌};
-ghost use Rattle.line.specs.Range.{LineInRange};
 ghost use Rattle.requirement.specs.declared.Goal.TheVariants.{Economy};
 ghost use Rattle.requirement.specs.Ranges.{EconomyInRange, GoalInRange};
 ghost use Rattle.requirement.specs.Required.{economy_factor, requirement, enclosing};
 
 use fractions::{Bounds, quotient};
-use line::{Line, Shape};
+use line::{OperatingLine, Shape};
 use roots::root;
 
 // f, the price of heat in 0.01 yuan/GJ; τ, the hours a year; P, the price of insulation in yuan/m³; S, the yearly share in 0.0001.
-#[derive(Clone, Copy)]
+#[derive(Clone, Copy, Debug, PartialEq, Eq)]
 pub struct EconomyTerms {
     pub heat: u64,
     pub hours: u64,
@@ -20,7 +19,7 @@ pub struct EconomyTerms {
     pub share: u64,
 }
 
-#[derive(Clone, Copy)]
+#[derive(Clone, Copy, Debug, PartialEq, Eq)]
 pub enum Goal {
     Economy(EconomyTerms),
     // A heat loss, in 0.1 W/m².
@@ -29,26 +28,26 @@ pub enum Goal {
     Surface(u64),
 }
 
-// Low and high need: what a goal requires of a line at a temperature difference in 0.1 °C, rounded down and rounded up.
-pub fn required(line: Line, difference: u64, goal: Goal) -> Bounds
-    requires { LineInRange line × (difference ≤ 7_000) × GoalInRange goal }
-    ensures { result ≡ enclosing (requirement line difference goal) }
+// Low and high need: what a goal requires of a line at its temperature difference, rounded down and rounded up.
+#[tactic(auto, unfolding(crate::specs::Required::requirement, crate::specs::Required::enclosing))]
+pub fn required(at: OperatingLine, goal: Goal) -> Bounds
+    requires { GoalInRange goal }
+    ensures { result ≡ enclosing (requirement at.line.line at.difference goal) }
 {
     match goal {
-        Goal::Economy(terms) => economy(line, difference, terms),
-        Goal::Loss(aim) => quotient(line.conduction(difference) * 100_000, aim),
-        Goal::Surface(s) => quotient(
-            line.conduction(difference) * 10_000_000,
-            line.coefficient * s,
-        ),
+        Goal::Economy(terms) => economy(at, terms),
+        Goal::Loss(aim) => quotient(at.conduction() * 100_000, aim),
+        Goal::Surface(s) => quotient(at.conduction() * 10_000_000, at.line.line.coefficient * s),
     }
 }
 
-fn economy(line: Line, difference: u64, terms: EconomyTerms) -> Bounds
-    requires { LineInRange line × (difference ≤ 7_000) × EconomyInRange terms }
-    ensures { result ≡ enclosing (requirement line difference (Economy terms)) }
+#[tactic(auto, using(crate::proofs::Sizes::economy_sizes))]
+fn economy(at: OperatingLine, terms: EconomyTerms) -> Bounds
+    requires { EconomyInRange terms }
+    ensures { result ≡ enclosing (requirement at.line.line at.difference (Economy terms)) }
 {
-    let numerator = 1000 * (terms.heat * line.conductivity * terms.hours * difference);
+    let line = at.line.line;
+    let numerator = 1000 * (terms.heat * line.conductivity * terms.hours * at.difference);
     root(
         printed_coefficient(line.shape()),
         numerator,

@@ -1,9 +1,12 @@
 -- The root of k² n / d in two parts: k times the whole root u of n / d, and v more.
 -- Assumes nothing.
 use mathlib.Core.Path.{◌≡◌, ap}
+use mathlib.Core.Bool.{cond}
 use Prim.Native.Nat.{ℕ, ◌+◌, ◌-◌, ◌*◌, ◌/◌, ◌%◌, ◌^◌, ◌≤◌, ◌<◌}
 use native.Mathlib.Nat.{add-sub_of_le, mul-le-mul, mul-le-mul_left, mul-le-mul_right, mul-lt-mul_of_pos_left, mul-pos, mod-lt, div-add-mod', div-lt_iff_lt-mul, le-mul_of_pos_right}
 use native.Mathlib.Omega.{arith}
+use lib.Dec.{eqb, eqb→eq}
+use Rattle.std.proofs.lemmas.Bool.{cond_both, eqb-false}
 use Rattle.fractions.specs.Fraction.{◌over◌}
 use Rattle.roots.specs.Root.{floor_root, ceiling_root}
 use Rattle.roots.proofs.Squares.{square_le}
@@ -12,8 +15,7 @@ use Rattle.roots.proofs.Roots.{floor_root_is, ceiling_root_is}
 -- r is the root of a / d rounded down, and rounded up where nothing is left; else the next number is
 pub record Rounded (a d r left : ℕ) : Type 0 where
   pub lower : r ≡ floor_root (a over d)
-  pub exact : left ≡ 0 → r ≡ ceiling_root (a over d)
-  pub next : 0 < left → r + 1 ≡ ceiling_root (a over d)
+  pub upper : cond (eqb left 0) r (r + 1) ≡ ceiling_root (a over d)
 
 -- So it is where a is (r² + s) d + t, with s too little for the next square and t too little for the next multiple.
 rounded : (a d r s t : ℕ) → 0 < d → a ≡ (r * r + s) * d + t → s < 2 * r + 1 → t < d → Rounded a d r (s + t)
@@ -21,13 +23,17 @@ rounded a d r s t pos e short rest =
     let above : a < (r + 1) * (r + 1) * d = omega (arith, mul-le-mul_right d short) in
     record {
       lower = floor_root_is (a over d) pos r (omega arith) above;
-      exact = λ none.
+      upper =
+          cond_both (eqb (s + t) 0) r (r + 1) (λ n. n ≡ ceiling_root (a over d))
+          (λ whole.
+          let none : s + t ≡ 0 = eqb→eq (s + t) 0 (rw whole tt) in
           let no_s : s ≡ 0 = omega arith in
-          let whole : a ≡ r * r * d = omega (arith, ap (λ x. x * d) no_s) in
-          ceiling_root_is (a over d) pos r (omega arith) (λ x lt. omega (arith, mul-le-mul_right d (mul-le-mul lt lt)));
-      next = λ some.
+          let square : a ≡ r * r * d = omega (arith, ap (λ x. x * d) no_s) in
+          ceiling_root_is (a over d) pos r (omega arith) (λ x lt. omega (arith, mul-le-mul_right d (mul-le-mul lt lt))))
+          (λ more.
+          let some : ¬ (s + t ≡ 0) = eqb-false (s + t) 0 more in
           let below : r * r * d < a = omega (arith, le-mul_of_pos_right s pos) in
-          ceiling_root_is (a over d) pos (r + 1) (omega arith) (λ x lt. omega (arith, square_le {x = x} {y = r} d (omega arith)));
+          ceiling_root_is (a over d) pos (r + 1) (omega arith) (λ x lt. omega (arith, square_le {x = x} {y = r} d (omega arith))));
     }
 
 -- what the square of k u lacks of k² n / d

@@ -15,10 +15,6 @@ pub self_le : (n : ℕ) {d : ℕ} → 0 < d → n ≤ n * n * d
 self_le zero h = omega arith
 self_le (suc n) h = omega (arith, mul-le-mul_left (suc n * suc n) h)
 
--- what v adds to the square of a grows with v
-pub gain_lt : (a : ℕ) {v w : ℕ} → v < w → v * (2 * a + v) < w * (2 * a + w)
-gain_lt a h = omega (arith, mul-le-mul h h, mul-le-mul_left a h)
-
 pub factor_pos : (t x : ℕ) {g : ℕ} → g < t * x → 0 < t
 factor_pos zero x h = omega arith
 factor_pos (suc t) x h = omega arith

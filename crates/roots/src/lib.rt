@@ -9,6 +9,7 @@ use fractions::Bounds;
 
 // The largest v with (a + v)² at most a² + gap; it is below limit. Newton's rule from above: as long as (a + v)² is too much, v falls by
 // what is too much over 2 (a + v), rounded up.
+#[tactic(auto, using(crate::proofs::Squares::newton_step))]
 fn increment(a: u64, gap: u64, limit: u64) -> u64
     requires { (gap < limit * (2 * a + limit)) × (limit * (2 * a + limit) ≤ 2 ^ 64) × (a < 2 ^ 62) × (limit < 2 ^ 62) }
     ensures { (result * (2 * a + result) ≤ gap) × (gap < (result + 1) * (2 * a + (result + 1))) × (result < limit) }
@@ -25,25 +26,17 @@ fn increment(a: u64, gap: u64, limit: u64) -> u64
 fn root_limit(x: u64) -> u64
     ensures { (x < result * result) × (result * result ≤ 2 ^ 64) × (result ≤ 2 ^ 32) }
 {
-    if x < 0x100_0000 {
-        return 0x1000;
+    match x {
+        0..0x100_0000 => 0x1000,
+        0x100_0000..0x1000_0000 => 0x4000,
+        0x1000_0000..0x1_0000_0000 => 0x1_0000,
+        0x1_0000_0000..0x10_0000_0000 => 0x4_0000,
+        0x10_0000_0000..0x100_0000_0000 => 0x10_0000,
+        _ => 0x1_0000_0000,
     }
-    if x < 0x1000_0000 {
-        return 0x4000;
-    }
-    if x < 0x1_0000_0000 {
-        return 0x1_0000;
-    }
-    if x < 0x10_0000_0000 {
-        return 0x4_0000;
-    }
-    if x < 0x100_0000_0000 {
-        return 0x10_0000;
-    }
-    0x1_0000_0000
 }
 
-// The root of x, rounded down.
+// The root of x, rounded down. With the library's isqrt `root` would take half as long again.
 fn whole_root(x: u64) -> u64
     requires { x < 2 ^ 63 }
     ensures { (result * result ≤ x) × (x < (result + 1) * (result + 1)) × (result < 2 ^ 32) }
@@ -67,15 +60,5 @@ pub fn root(k: u64, n: u64, d: u64) -> Bounds
     let lower = a + v;
     let left = gap - v * (2 * a + v) + part % d;
     let exact = left == 0;
-    if exact {
-        Bounds {
-            lower,
-            upper: lower,
-        }
-    } else {
-        Bounds {
-            lower,
-            upper: lower + 1,
-        }
-    }
+    Bounds::from_floor(lower, exact)
 }

@@ -7,6 +7,7 @@ use Prim.Native.Nat.{◌+◌, ◌-◌, ◌≤◌}
 use native.Mathlib.Nat.{le_trans, pos_of_ne-zero}
 use native.Mathlib.Omega.{arith}
 use borrow.Author.Tests.{eqb-false, not-false}
+use Rattle.std.specs.Prelude.{is_some}
 use Rattle.temperatures.specs.declared.Temperature.{Temperature}
 use Rattle.temperatures.specs.Temperature.{zero_degrees}
 use Rattle.heat_flow.specs.declared.HeatFlow.{HeatFlow}
@@ -19,14 +20,14 @@ use Rattle.sheet.specs.declared.fields.GoalCode.{GoalCode}
 use Rattle.sheet.specs.declared.fields.GoalCode.TheVariants.{ForEconomy, ForLoss, ForSurface}
 use Rattle.sheet.specs.declared.fields.Sheet.{Sheet}
 use Rattle.sheet.specs.Sheet.{uses_economy, uses_aim, difference, surface_aim, goal_with}
-use Rattle.sheet.specs.Fields.{economy_fields, aim_fields, first_fault, is_fault}
+use Rattle.sheet.specs.Fields.{economy_fields, aim_fields, first_fault}
 use Rattle.sheet.specs.Refusals.{aim_refused, value_cases}
 use Rattle.sheet.specs.Admitted.{Admitted}
 use Rattle.sheet.proofs.FirstFault.{inside, behind}
 
 -- each goal's own range, from the fields that only it uses, and from case 16
 goal_in_range :
-    (s : Sheet) (g : GoalCode) → is_fault (first_fault 13 (economy_fields (uses_economy g) s ++ aim_fields (uses_aim g) s)) ≡ false → difference s ≤ 7_000 → aim_refused s g ≡ false → GoalInRange (goal_with s g)
+    (s : Sheet) (g : GoalCode) → is_some (first_fault 13 (economy_fields (uses_economy g) s ++ aim_fields (uses_aim g) s)) ≡ false → difference s ≤ 7_000 → aim_refused s g ≡ false → GoalInRange (goal_with s g)
 goal_in_range s ForEconomy fields near aim =
     let heat = inside 13 _ _ fields refl in
     let hours = inside 13 _ _ heat.rest refl in

@@ -1,3 +1,4 @@
 pub mod FirstFault
 pub mod Ladder
 pub mod Admitted
+pub mod OneProof

@@ -1,6 +1,6 @@
 -- The answer to a sheet. 01, "The answer: 8 bytes", and 02, N2 and N4.
 -- Assumes nothing.
-use Rattle.std.specs.Prelude.{ℕ, ◌-◌, ◌*◌, cond, List, leb, eqb}
+use Rattle.std.specs.Prelude.{ℕ, ◌-◌, ◌*◌, cond, List, leb, eqb, Option, Some, None}
 use Rattle.fractions.specs.declared.Bounds.{Bounds}
 use Rattle.fractions.specs.Fraction.{Fraction, ◌over◌}
 use Rattle.fractions.specs.Rounding.{ceiling}
@@ -16,19 +16,17 @@ use Rattle.verdict.specs.declared.Verdict.TheVariants.{Sufficient}
 use Rattle.verdict.specs.Verdict.{judged}
 use Rattle.limits.specs.Limits.{loss_limit, surface_limit}
 use Rattle.answer.specs.declared.Answer.{Answer}
-use Rattle.answer.specs.declared.LossCheck.{LossCheck}
-use Rattle.answer.specs.declared.LossCheck.TheVariants.{Judged, NonePrinted}
 use Rattle.answer.specs.Answer.{encoded}
 use Rattle.sheet.specs.declared.fields.Sheet.{Sheet}
 use Rattle.sheet.specs.Sheet.{decoded, difference}
 use Rattle.sheet.specs.Search.{required_of, chosen}
 
 -- of a rung that provides p: "The loss check reads meets, misses or open of the chosen rung against the loss need at the limit below"; it
--- "follows the service byte" (02, N2)
-unfoldable pub loss_check : Sheet → Bounds → LossCheck
+-- "follows the service byte" (02, N2). There is none where no limit is printed.
+unfoldable pub loss_check : Sheet → Bounds → Option Verdict
 loss_check s p =
     let limit = loss_limit s.service s.temperature in
-    cond (eqb limit 0) NonePrinted (Judged (judged p (required_of s (Loss limit))))
+    cond (eqb limit 0) None (Some (judged p (required_of s (Loss limit))))
 
 -- "the surface check does so with the limit in place of aim. A t at or below the surface limit is within." "Both checks of a cold sheet
 -- read 0 for surface and 3 for loss" (02, N4) by these same rules, as `ColdLines` promises.

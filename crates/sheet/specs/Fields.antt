@@ -1,14 +1,12 @@
 -- The ranges of a sheet's fields, and the first field that is outside its range. 01, "The sheet: 24 bytes", and 02, N2 and N4.
 -- Assumes nothing.
-use Rattle.std.specs.Prelude.{ℕ, ◌+◌, ◌-◌, Bool, true, false, cond, List, [], ◌∷◌, ◌++◌, eqb}
+use Rattle.std.specs.Prelude.{ℕ, ◌+◌, ◌-◌, Bool, true, false, ◌&&◌, List, [], ◌∷◌, ◌++◌, eqb, Option, option_map, find}
 use Rattle.refusals.specs.declared.Refusal.TheVariants.{UnknownCode, OutOfRange, NotZero}
 use Rattle.refusals.specs.Numbers.{number_of}
 use Rattle.refusals.specs.Range.{outside}
 use Rattle.temperatures.specs.Temperature.{zero_degrees}
 use Rattle.heat_flow.specs.HeatFlow.{least_temperature}
 use Rattle.sheet.specs.declared.fields.Sheet.{Sheet}
-use Rattle.sheet.specs.declared.faults.Fault.{Fault}
-use Rattle.sheet.specs.declared.faults.Fault.TheVariants.{None, At}
 use Rattle.sheet.specs.Sheet.{uses_economy, uses_aim}
 
 -- a field: its offset, its value and its range, and the number of the refusal where it is outside
@@ -66,20 +64,6 @@ aim_fields false s = unused 22 s.aim ∷ []
 abbrev pub fields : Sheet → List Field
 fields s = codes s ++ line_fields s ++ economy_fields (uses_economy s.goal) s ++ aim_fields (uses_aim s.goal) s
 
--- a value outside its range, by its offset
-abbrev pub fault_at : ℕ → ℕ → ℕ → ℕ → Fault
-fault_at o x l m = cond (outside x l m) (At o) None
-
--- the first of two faults
-abbrev pub or_else : Fault → Fault → Fault
-or_else None later = later
-or_else (At o) later = At o
-
--- the first field of a list that is outside its range, of those of the refusal n
-unfoldable pub first_fault : ℕ → List Field → Fault
-first_fault n [] = None
-first_fault n (f ∷ fs) = or_else (cond (eqb n f.refusal) (fault_at f.offset f.value f.least f.most) None) (first_fault n fs)
-
-abbrev pub is_fault : Fault → Bool
-is_fault None = false
-is_fault (At o) = true
+-- the first field of a list that is outside its range, of those of the refusal n, by its offset
+unfoldable pub first_fault : ℕ → List Field → Option ℕ
+first_fault n fs = option_map (λ (f : Field). f.offset) (find (λ (f : Field). eqb n f.refusal && outside f.value f.least f.most) fs)

@@ -1,6 +1,6 @@
 -- What is sent back. 01, "Sent back because of the sheet"; 02, N4: "Refusals 12 to 16 read these conditions for goals 4 and 5".
 -- Assumes nothing.
-use Rattle.std.specs.Prelude.{ℕ, Bool, false, not, ◌&&◌, List, [], ◌∷◌, ◌++◌, eqb, length}
+use Rattle.std.specs.Prelude.{ℕ, Bool, false, not, ◌&&◌, List, [], ◌∷◌, ◌++◌, eqb, length, is_some}
 use Rattle.lengths.specs.Ladder.{rungs}
 use Rattle.refusals.specs.declared.Refusal.{Refusal}
 use Rattle.refusals.specs.declared.Refusal.TheVariants.{SheetLength, UnknownCode, OutOfRange, NotZero, NoDrivingDifference, InvalidAim, NoneSufficient, TooClose}
@@ -13,7 +13,7 @@ use Rattle.sheet.specs.declared.fields.GoalCode.{GoalCode}
 use Rattle.sheet.specs.declared.fields.GoalCode.TheVariants.{ForEconomy, ForLoss, ForSurface}
 use Rattle.sheet.specs.declared.fields.Sheet.{Sheet}
 use Rattle.sheet.specs.Sheet.{decoded, surface_aim}
-use Rattle.sheet.specs.Fields.{fields, first_fault, is_fault}
+use Rattle.sheet.specs.Fields.{fields, first_fault}
 use Rattle.sheet.specs.Search.{verdicts, chosen}
 use Rattle.sheet.specs.Answer.{answer}
 
@@ -25,7 +25,7 @@ aim_refused s ForSurface = not (beyond s.flow (surface_aim s) s.ambient && beyon
 
 -- a field of this refusal is outside its range
 abbrev pub faulty : Sheet → Refusal → Bool
-faulty s why = is_fault (first_fault (number_of why) (fields s))
+faulty s why = is_some (first_fault (number_of why) (fields s))
 
 -- the cases of the fields' values
 abbrev pub value_cases : Sheet → List Case

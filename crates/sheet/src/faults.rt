@@ -1,112 +1,100 @@
 // What is wrong with a sheet, before a thickness is sought.
-ghost use Rattle.std.specs.Prelude.{◌≡◌};
-ghost use Rattle.sheet.specs.Sheet.{surface_aim};
-ghost use Rattle.sheet.specs.Fields.{economy_fields, aim_fields, fields, fault_at, or_else, first_fault, is_fault};
+ghost use Rattle.std.specs.Prelude.{◌≡◌, [], ◌∷◌, if◌then◌else◌};
+ghost use Rattle.std.specs.Bool.{then_some};
+ghost use Rattle.refusals.specs.Range.{outside};
+ghost use Rattle.sheet.specs.Sheet.{uses_economy, uses_aim, surface_aim};
+ghost use Rattle.sheet.specs.Fields.{used_if, line_fields, economy_fields, aim_fields, fields, first_fault};
 ghost use Rattle.sheet.specs.Refusals.{aim_refused};
 
 use crate::{GoalCode, Sheet};
 use refusals::outside;
 use temperatures::Temperature;
 
-// The offset of a faulty field, or that there is none.
-#[derive(Clone, Copy)]
-pub enum Fault {
-    None,
-    At(u64),
-}
-
-impl Fault {
-    pub fn found(self) -> bool
-        ensures { result ≡ is_fault self }
-    {
-        match self {
-            Fault::None => false,
-            Fault::At(_) => true,
-        }
-    }
-}
-
-// The first fault: that of a value outside its range, or the one found at later offsets.
-fn fault_or(offset: u64, value: u64, least: u64, most: u64, later: Fault) -> Fault
-    ensures { result ≡ or_else (fault_at offset value least most) later }
+// The offset of a field whose value is outside its range.
+fn fault(offset: u64, value: u64, least: u64, most: u64) -> Option<u64>
+    ensures { result ≡ then_some (outside value least most) offset }
 {
-    if outside(value, least, most) {
-        return Fault::At(offset);
-    }
-    later
+    outside(value, least, most).then_some(offset)
 }
 
+// The same of a field that only some goals use: one that is not used has to be zero.
+fn fault_if(used: bool, offset: u64, value: u64, least: u64, most: u64) -> Option<u64>
+    ensures { result ≡ first_fault (if used then 13 else 14) (used_if used offset value least most ∷ []) }
+{
+    if used {
+        fault(offset, value, least, most)
+    } else {
+        fault(offset, value, 0, 0)
+    }
+}
+
+// Field by field: an array of them all, searched for each of the three refusals, takes longer than the rest of a refused sheet.
 impl Sheet {
     // The first code that is unknown.
-    pub fn code_fault(self) -> Fault
+    pub fn code_fault(self) -> Option<u64>
         ensures { result ≡ first_fault 12 (fields self) }
     {
-        let service = fault_or(1, self.service, 1, 4, Fault::None);
-        fault_or(0, self.code, 1, 5, service)
+        fault(0, self.code, 1, 5).or(fault(1, self.service, 1, 4))
     }
 
     // The first field that the goal uses and that is outside its range.
-    pub fn range_fault(self) -> Fault
+    pub fn range_fault(self) -> Option<u64>
         ensures { result ≡ first_fault 13 (fields self) }
     {
-        let zero = Temperature::ZERO as u64;
-        let goal = self.goal;
-        let flow = self.flow;
-        let economy = self.economy_fault(goal.uses_economy());
-        let coefficient = fault_or(12, self.line.coefficient, 100, 10_000, economy);
-        let conductivity = fault_or(10, self.line.conductivity, 1, 2_000, coefficient);
-        let ambient = fault_or(
-            8,
-            self.ambient.0 as u64,
-            zero - 500,
-            zero + 500,
-            conductivity,
-        );
-        let temperature = fault_or(
-            6,
-            self.temperature.0 as u64,
-            flow.least_temperature(),
-            zero + 6_500,
-            ambient,
-        );
-        fault_or(4, self.line.diameter.0, 100, 65_535, temperature)
-    }
-
-    // The first of f, τ, P and S that is used and outside its range.
-    fn economy_fault(self, used: bool) -> Fault
-        ensures { result ≡ first_fault 13 (economy_fields used self) }
-    {
-        if used {
-            let share = fault_or(20, self.economy.share, 1, 10_000, Fault::None);
-            let insulation = fault_or(18, self.economy.insulation, 1, 65_535, share);
-            let hours = fault_or(16, self.economy.hours, 1, 8_784, insulation);
-            return fault_or(14, self.economy.heat, 1, 65_535, hours);
+        let line = self.line_fault();
+        if self.goal.uses_economy() {
+            line.or(self.economy_fault())
+        } else {
+            line
         }
-        Fault::None
     }
 
     // The first field that the goal does not use and that is not zero.
-    pub fn zero_fault(self) -> Fault
+    pub fn zero_fault(self) -> Option<u64>
         ensures { result ≡ first_fault 14 (fields self) }
     {
-        let goal = self.goal;
-        let aim = self.aim_fault(goal.uses_aim());
-        if goal.uses_economy() {
-            return aim;
+        let aim = self.aim_fault();
+        if self.goal.uses_economy() {
+            aim
+        } else {
+            self.economy_fault().or(aim)
         }
-        let share = fault_or(20, self.economy.share, 0, 0, aim);
-        let insulation = fault_or(18, self.economy.insulation, 0, 0, share);
-        let hours = fault_or(16, self.economy.hours, 0, 0, insulation);
-        fault_or(14, self.economy.heat, 0, 0, hours)
     }
 
-    fn aim_fault(self, used: bool) -> Fault
-        ensures { result ≡ first_fault 14 (aim_fields used self) }
+    // The first of D, t, ta, L and α that is outside its range.
+    fn line_fault(self) -> Option<u64>
+        ensures { result ≡ first_fault 13 (line_fields self) }
     {
-        if used {
-            return Fault::None;
+        let zero = Temperature::ZERO as u64;
+        let least = self.flow.least_temperature();
+        fault(4, self.line.diameter.0, 100, 65_535)
+            .or(fault(6, self.temperature.0 as u64, least, zero + 6_500))
+            .or(fault(8, self.ambient.0 as u64, zero - 500, zero + 500))
+            .or(fault(10, self.line.conductivity, 1, 2_000))
+            .or(fault(12, self.line.coefficient, 100, 10_000))
+    }
+
+    // The first of f, τ, P and S that is outside its range, or not zero where the goal does not use them.
+    fn economy_fault(self) -> Option<u64>
+        ensures { result ≡ first_fault (if uses_economy self.goal then 13 else 14) (economy_fields (uses_economy self.goal) self) }
+    {
+        let used = self.goal.uses_economy();
+        fault_if(used, 14, self.economy.heat, 1, 65_535)
+            .or(fault_if(used, 16, self.economy.hours, 1, 8_784))
+            .or(fault_if(used, 18, self.economy.insulation, 1, 65_535))
+            .or(fault_if(used, 20, self.economy.share, 1, 10_000))
+    }
+
+    // An aim that the goal does not use and that is not zero.
+    #[tactic(auto, unfolding(crate::specs::Fields::first_fault))]
+    fn aim_fault(self) -> Option<u64>
+        ensures { result ≡ first_fault 14 (aim_fields (uses_aim self.goal) self) }
+    {
+        if self.goal.uses_aim() {
+            None
+        } else {
+            fault(22, self.aim, 0, 0)
         }
-        fault_or(22, self.aim, 0, 0, Fault::None)
     }
 
     // The surface aim.
@@ -120,8 +108,7 @@ impl Sheet {
     pub fn invalid_aim(self) -> bool
         ensures { result ≡ aim_refused self self.goal }
     {
-        let goal = self.goal;
-        match goal {
+        match self.goal {
             GoalCode::ForEconomy => false,
             GoalCode::ForLoss => self.aim == 0,
             GoalCode::ForSurface => {

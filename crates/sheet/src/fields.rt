@@ -10,7 +10,7 @@ use requirement::EconomyTerms;
 use temperatures::Temperature;
 
 // The kind of goal by its code: 1 and 5 economy, 2 loss, and every other surface.
-#[derive(Clone, Copy)]
+#[derive(Clone, Copy, Debug, PartialEq, Eq)]
 pub enum GoalCode {
     ForEconomy,
     ForLoss,
@@ -18,54 +18,47 @@ pub enum GoalCode {
 }
 
 impl GoalCode {
+    // Not a `TryFrom`: every code has a reading, since refusal 12 is of the number as it is written. Nor a `From`, since this and `flow_of`
+    // are two readings of one number.
     pub(crate) fn of(code: u64) -> GoalCode
         ensures { result ≡ goal_code code }
     {
-        if (code == 1) | (code == 5) {
-            return GoalCode::ForEconomy;
+        match code {
+            1 | 5 => GoalCode::ForEconomy,
+            2 => GoalCode::ForLoss,
+            _ => GoalCode::ForSurface,
         }
-        if code == 2 {
-            return GoalCode::ForLoss;
-        }
-        GoalCode::ForSurface
     }
 
     // Does the goal use the prices, the hours and the yearly share?
     pub(crate) fn uses_economy(self) -> bool
         ensures { result ≡ uses_economy self }
     {
-        match self {
-            Self::ForEconomy => true,
-            Self::ForLoss => false,
-            Self::ForSurface => false,
-        }
+        matches!(self, GoalCode::ForEconomy)
     }
 
     // Does it use the aim?
     pub(crate) fn uses_aim(self) -> bool
         ensures { result ≡ uses_aim self }
     {
-        match self {
-            Self::ForEconomy => false,
-            Self::ForLoss => true,
-            Self::ForSurface => true,
-        }
+        matches!(self, GoalCode::ForLoss | GoalCode::ForSurface)
     }
 }
 
-// The direction of the heat's flow by a goal's code: inward for 4 and 5.
+// The direction of the heat's flow by a goal's code: inward for 4 and 5. A function, as `GoalCode::of` is.
 fn flow_of(code: u64) -> HeatFlow
     ensures { result ≡ flow_of code }
 {
-    if (code == 4) | (code == 5) {
-        return HeatFlow::Inward;
+    match code {
+        4 | 5 => HeatFlow::Inward,
+        _ => HeatFlow::Outward,
     }
-    HeatFlow::Outward
 }
 
 // The goal's code as it is written and as it is read, the direction of the heat's flow, the service, the insulated line, the temperatures t
-// of the pipe and ta of the air, the economy terms, and the aim as it is written.
-#[derive(Clone, Copy)]
+// of the pipe and ta of the air, the economy terms, and the aim as it is written. Any 24 bytes are a sheet, so code and service are numbers:
+// refusal 12 is of a number that is no goal or service.
+#[derive(Clone, Copy, Debug, PartialEq, Eq)]
 pub struct Sheet {
     pub code: u64,
     pub goal: GoalCode,
@@ -79,6 +72,7 @@ pub struct Sheet {
 }
 
 impl Sheet {
+    #[tactic(auto, unfolding(crate::specs::Sheet::decoded))]
     pub fn decode(bytes: &[u8]) -> Sheet
         requires { length bytes.now ≡ 24 }
         ensures { result ≡ decoded bytes.now }

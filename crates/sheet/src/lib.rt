@@ -4,5 +4,4 @@
 mod faults;
 mod fields;
 
-pub use faults::Fault;
 pub use fields::{GoalCode, Sheet};

@@ -4,9 +4,10 @@
 ghost use Rattle.std.specs.Prelude.{◌≡◌};
 ghost use Rattle.temperatures.specs.Temperature.{decoded, encoded};
 
-#[derive(Clone, Copy)]
+#[derive(Clone, Copy, Debug, PartialEq, Eq, PartialOrd, Ord)]
 pub struct Temperature(pub u16);
 
+// No `From` stands for the two conversions: it would not say that the number is in two's complement, and a u16 may be the count as well.
 impl Temperature {
     // 0.0 °C.
     pub const ZERO: u16 = 32_768;
@@ -15,13 +16,14 @@ impl Temperature {
     pub fn decode(n: u64) -> Temperature
         ensures { result ≡ decoded n }
     {
-        Temperature(((n % 65_536 + 32_768) % 65_536) as u16)
+        let bits = (n % 65_536) as u16;
+        Temperature(bits.wrapping_add(Self::ZERO))
     }
 
     // The number that says the temperature in two's complement.
     pub fn encode(self) -> u16
         ensures { result ≡ encoded self }
     {
-        ((self.0 as u32 + 32_768) % 65_536) as u16
+        self.0.wrapping_add(Self::ZERO)
     }
 }

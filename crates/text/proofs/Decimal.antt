@@ -23,7 +23,7 @@ spelt (suc k) (suc f) n lt least le =
     rw (le-ltb n 10 (omega (arith, least (omega arith))), decimal_up_to, lt-ltb (n % 10) 10 (omega arith))
     (ap (λ (t : List ℕ). t ++ ((48 + n % 10) ∷ [])) (spelt k f (n / 10) (omega arith) (λ some. omega (arith, least (omega arith))) (omega (arith, least (omega arith)))))
 
-fewest : (n k : ℕ) → IsDigitCount 10 1 n k → last_digits 10 k n ≡ decimal n
+pub fewest : (n k : ℕ) → IsDigitCount 10 1 n k → last_digits 10 k n ≡ decimal n
 unfolding decimal
 fewest n zero few = absurd (omega arith)
 fewest n (suc k) few =

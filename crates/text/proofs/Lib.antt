@@ -1,2 +1,3 @@
+pub mod Appended
+pub mod Concatenated
 pub mod Decimal
-pub mod Pieces

@@ -6,10 +6,10 @@ mod choice;
 ghost use Rattle.std.specs.Prelude.{◌≡◌};
 ghost use Rattle.verdict.specs.Verdict.{judged, not_insufficient, is_undecided};
 
-pub use choice::{Choice, search};
+pub use choice::{Rung, search};
 use fractions::Bounds;
 
-#[derive(Clone, Copy)]
+#[derive(Clone, Copy, Debug, PartialEq, Eq)]
 pub enum Verdict {
     // It meets: under-have is at or above high need.
     Sufficient,
@@ -20,26 +20,18 @@ pub enum Verdict {
 }
 
 impl Verdict {
-    // Does a rung with this verdict not miss?
+    // Does a rung with this verdict not miss? No open rung is skipped.
     pub(crate) fn not_insufficient(self) -> bool
         ensures { result ≡ not_insufficient self }
     {
-        match self {
-            Self::Sufficient => true,
-            Self::Insufficient => false,
-            Self::Undecided => true, // no open rung is skipped
-        }
+        self != Self::Insufficient
     }
 
     // Is it open?
     pub fn is_undecided(self) -> bool
         ensures { result ≡ is_undecided self }
     {
-        match self {
-            Self::Sufficient => false,
-            Self::Insufficient => false,
-            Self::Undecided => true,
-        }
+        self == Self::Undecided
     }
 }
 

@@ -1,43 +1,11 @@
--- The lines do not depend on how the input is cut into blocks, as long as each block but the last has whole sheets.
+-- A listing goes on, block by block.
 -- Assumes nothing.
-use mathlib.Core.Path.{◌≡◌, refl, sym, ap, ◌∙◌}
-use mathlib.Core.List.{List, ◌++◌, append-nil, append_assoc}
-use Prim.Native.Nat.{ℕ, zero, suc, ◌+◌, ◌*◌, ◌<◌, ◌≤◌}
-use native.Mathlib.Nat.{add-zero, add-suc}
-use native.Mathlib.Omega.{arith}
-use lib.ListN.{length, drop, length-append, length-drop}
-use lib.Seq.{drop-append-add, take-append-le, drop-append-le}
-use Rattle.text.specs.Text.{concatenated}
-use Rattle.listing_text.specs.Listing.{chunks, chunk, line_at, lines_of, header, listing}
+use mathlib.Core.Path.{◌≡◌, sym, ap, ◌∙◌}
+use mathlib.Core.List.{List, ◌++◌, append_assoc}
+use Prim.Native.Nat.{ℕ, ◌*◌}
+use lib.ListN.{length}
+use Rattle.listing_text.specs.Listing.{lines_of, header, listing}
+use Rattle.listing_text.proofs.Cut.{cut}
 
-module _ (a b : List ℕ) (n : ℕ) (whole : length a ≡ 24 * n) where
-  -- the first n chunks are those of a, and the others those of b
-  chunk_first : (k : ℕ) → k < n → chunk (a ++ b) k ≡ chunk a k
-  chunk_first k lt =
-      let rest = length-drop (24 * k) a in
-      rw (drop-append-le (24 * k) a b (omega arith)) (take-append-le 24 (drop (24 * k) a) b (omega arith))
-
-  chunk_later : (k : ℕ) → chunk (a ++ b) (n + k) ≡ chunk b k
-  chunk_later k =
-      let count : 24 * (n + k) ≡ length a + 24 * k = omega arith in
-      rw (count, drop-append-add)
-
-  lines_first : (j : ℕ) → j ≤ n → concatenated (line_at (a ++ b)) j ≡ concatenated (line_at a) j
-  unfolding concatenated
-  lines_first zero le = refl
-  lines_first (suc j) le = rw (lines_first j (omega arith), chunk_first j le)
-
-  lines_later : (j : ℕ) → concatenated (line_at (a ++ b)) (n + j) ≡ concatenated (line_at a) n ++ concatenated (line_at b) j
-  unfolding concatenated
-  lines_later zero = rw (add-zero, append-nil) (lines_first n (omega arith))
-  lines_later (suc j) = rw (add-suc, ← append_assoc) (rw (concatenated, lines_later j, chunk_later j))
-
-  pub cut : lines_of (a ++ b) ≡ lines_of a ++ lines_of b
-  cut =
-      let all : chunks (a ++ b) ≡ n + chunks b = omega (arith, length-append a b) in
-      let front : chunks a ≡ n = omega arith in
-      rw (all, front) (lines_later (chunks b))
-
-  -- so a listing goes on, block by block
-  pub listing_cut : listing (a ++ b) ≡ listing a ++ lines_of b
-  listing_cut = ap (λ (text : List ℕ). header ++ text) cut ∙ sym (append_assoc header (lines_of a) (lines_of b))
+pub listing_cut : (a b : List ℕ) (n : ℕ) → length a ≡ 24 * n → listing (a ++ b) ≡ listing a ++ lines_of b
+listing_cut a b n whole = ap (λ (text : List ℕ). header ++ text) (cut a b n whole) ∙ sym (append_assoc header (lines_of a) (lines_of b))

@@ -1,35 +1,20 @@
-use Rattle.std.proofs.Common.{rules, refl, suc, arith, add-one, drop-cons}
-use lib.ListN.{drop_of_length-le, length-set}
-use lib.Seq.{take-suc-set}
-use borrow.Author.Tests.{le-leb, lt-leb}
-use Rattle.hexadecimal.specs.Hex.{pairs, bytes_of}
-use Rattle.hexadecimal.proofs.Pairs.{step}
+use Rattle.std.proofs.Common.{◌∙◌, arith}
+use Rattle.std.proofs.lemmas.Grind.{common_steps}
+use Rattle.std.specs.Slice.Iter.{chunks_exact_rest}
+use Rattle.hexadecimal.proofs.Pairs.{pairs-step}
 use Rattle.hexadecimal.proofs.decode.Goals as goal
 
-pub returns-then-text-gt128-clause-result_value : goal.returns-then-text-gt128-clause-result_value
-unfolding bytes_of
-returns-then-text-gt128-clause-result_value c = simp (bytes_of, lt-leb _ _ c.if-text-gt128.true)
+pub returns-in_err-pair : goal.returns-in_err-pair
+returns-in_err-pair c =
+    let loop = c.loop-digits in
+    let steps = c.in-Some.ensures.steps in
+    let step = pairs-step loop.bytes c.in-Some.digits.now (chunks_exact_rest c.next.new.self) steps.1.0 (steps.1.1 ∙ loop.invariant.size) c.pair.ensures in
+    rw (c.from_residual.ensures, loop.invariant.written, step, c.in_err-pair.was)
 
-pub loop-offset-init : goal.loop-offset-init
-unfolding bytes_of
-loop-offset-init c = (search rules, search rules, refl, simp (bytes_of, le-leb _ _ c.if-text-gt128.false))
-
-pub returns-in_default-clause-result_value : goal.returns-in_default-clause-result_value
-returns-in_default-clause-result_value c = simp (step _ _ c.loop-offset.offset c.loop-offset-test.true c.loop-offset.invariant.3 c.pair.ensures, c.in_default.is)
-
-pub loop-offset-preserved : goal.loop-offset-preserved
-loop-offset-preserved c =
-    let loop = c.loop-offset in
-    let next = step _ _ loop.offset c.loop-offset-test.true loop.invariant.3 c.pair.ensures in
-    let put = take-suc-set loop.room loop.k c.in-Value.b (omega arith) in
-    (omega arith, omega arith, simp length-set loop.invariant.2, simp (next, c.in-Value.is, add-one, put))
-
-pub returns-then-offset-text-clause-result_value : goal.returns-then-offset-text-clause-result_value
-unfolding pairs
-returns-then-offset-text-clause-result_value c =
-    let text = c.args.text.now in
-    simp (c.loop-offset.invariant.3, drop-cons text c.loop-offset.offset 0 (omega arith), drop_of_length-le text {i = suc c.loop-offset.offset} (omega arith))
-
-pub returns-clause-result_value : goal.returns-clause-result_value
-unfolding pairs
-returns-clause-result_value c = simp (c.loop-offset.invariant.3, drop_of_length-le c.args.text.now {i = c.loop-offset.offset} (omega arith))
+pub loop-digits-preserved : goal.loop-digits-preserved
+loop-digits-preserved c =
+    let loop = c.loop-digits in
+    let steps = c.in-Some.ensures.steps in
+    let step = pairs-step loop.bytes c.in-Some.digits.now (chunks_exact_rest c.next.new.self) steps.1.0 (steps.1.1 ∙ loop.invariant.size) c.pair.ensures in
+    let written = loop.invariant.written ∙ rw c.in_ok-pair.was at step in
+    grind (arith, common_steps, written)

@@ -1,10 +1,15 @@
--- The bytes that the text writes are the k in the room, and then those that the rest writes.
-use Rattle.std.proofs.Common.{◌≡◌, ◌*◌, ◌-◌, ◌≤◌, length, take, drop}
+-- The bytes that the text writes are those so far, and then those that the rest writes.
+use Rattle.std.proofs.Common.{◌≡◌, ◌+◌, ◌*◌, ◌%◌, ◌≤◌, length}
+use Rattle.std.specs.Slice.Iter.{chunks_exact_rest, chunks_exact_size}
 use Rattle.hexadecimal.specs.Hex.{pairs, bytes_of}
 use Rattle.hexadecimal.proofs.decode.Given as goal
 
-abbrev pub invariant-loop-offset : goal.invariant-loop-offset
-invariant-loop-offset l = (l.offset ≡ 2 * l.k) × (l.offset ≤ length l.text) × (length l.room ≡ 64) × (bytes_of l.text ≡ pairs (take l.k l.room) (drop l.offset l.text))
-
-abbrev pub decreases-loop-offset : goal.decreases-loop-offset
-decreases-loop-offset l = length l.text - l.offset
+abbrev pub invariant-loop-digits : goal.invariant-loop-digits
+invariant-loop-digits l = record {
+  next : goal.iterator-loop-digits.can_next l.digits-iterator;
+  finite : goal.iterator-loop-digits.is_finite l.digits-iterator;
+  size : chunks_exact_size l.digits-iterator ≡ 2;
+  even : length (chunks_exact_rest l.digits-iterator) % 2 ≡ 0;
+  room : 2 * length l.bytes + length (chunks_exact_rest l.digits-iterator) ≤ 128;
+  written : bytes_of l.text ≡ pairs l.bytes (chunks_exact_rest l.digits-iterator);
+}

@@ -1,6 +1,5 @@
 -- The outer diameter times each side of the logarithm fits, and each quotient is the insulation's.
-use Rattle.std.proofs.Common.{◌≡◌, ℕ, ◌+◌, ◌-◌, ◌*◌, ◌/◌, ◌^◌, ◌≤◌, ap, ◌∙◌, arith}
-use native.Mathlib.Nat.{div-le_self}
+use Rattle.std.proofs.Common.{◌≡◌, ℕ, ◌*◌, ◌/◌, ◌^◌, ◌≤◌, ap, ◌∙◌, arith}
 use Rattle.fractions.specs.declared.Bounds.{Bounds}
 use Rattle.fractions.specs.Fraction.{◌over◌}
 use Rattle.fractions.specs.Rounding.{ceiling}
@@ -34,10 +33,6 @@ returns c =
     let e = c.outer-e.result.0 in
     let outer = c.outer-e.ensures in
     let log = c.log_beyond-log.ensures in
-    let fits = small c.requires.1 c.requires.2 c.requires.3 outer log in (
-      both_of
-          (ap (λ (t : ℕ). e * t / 10 ^ 7) (lower_of log) ∙ ap (λ (x : Diameter). x.0 * lower_log D x / 10 ^ 7) outer)
-          (upper_of c.quotient.ensures ∙ ap (λ (t : ℕ). ceiling ((e * t) over 10 ^ 7)) (upper_of log) ∙ ap (λ (x : Diameter). ceiling ((x.0 * upper_log D x) over 10 ^ 7)) outer),
-      omega (arith, fits, div-le_self (e * c.log_beyond-log.result.lower) (10 ^ 7)),
-      omega (arith, fits, upper_of c.quotient.ensures, div-le_self (e * c.log_beyond-log.result.upper + (10 ^ 7 - 1)) (10 ^ 7)),
-    )
+    both_of
+    (ap (λ (t : ℕ). e * t / 10 ^ 7) (lower_of log) ∙ ap (λ (x : Diameter). x.0 * lower_log D x / 10 ^ 7) outer)
+    (upper_of c.quotient.ensures ∙ ap (λ (t : ℕ). ceiling ((e * t) over 10 ^ 7)) (upper_of log) ∙ ap (λ (x : Diameter). ceiling ((x.0 * upper_log D x) over 10 ^ 7)) outer)

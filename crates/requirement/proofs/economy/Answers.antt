@@ -4,25 +4,13 @@ use Rattle.fractions.specs.Fraction.{◌over◌}
 use Rattle.roots.specs.Root.{root_bounds}
 use Rattle.line.specs.Line.{shape_of}
 use Rattle.requirement.specs.Required.{economy_factor, requirement, enclosing}
-use Rattle.requirement.proofs.Sizes.{economy_sizes}
 use Rattle.requirement.proofs.economy.Goals as goal
-
-pub overflow_mul-numerator-3 : goal.overflow_mul-numerator-3
-overflow_mul-numerator-3 c = omega (arith, economy_sizes c.args.line c.args.difference c.args.terms c.requires.0 c.requires.1 c.requires.2)
-
-pub overflow_mul-numerator-4 : goal.overflow_mul-numerator-4
-overflow_mul-numerator-4 c = omega (arith, economy_sizes c.args.line c.args.difference c.args.terms c.requires.0 c.requires.1 c.requires.2)
-
-pub root-requires : goal.root-requires
-root-requires c =
-    let sizes = economy_sizes c.args.line c.args.difference c.args.terms c.requires.0 c.requires.1 c.requires.2 in
-    (omega arith, omega arith, omega (arith, sizes), omega (arith, sizes), omega (arith, sizes))
 
 pub returns : goal.returns
 unfolding requirement enclosing
 returns c =
     let terms = c.args.terms in
-    let x = terms.heat * c.args.line.conductivity * terms.hours * c.args.difference in
+    let x = terms.heat * c.args.at.line.line.conductivity * terms.hours * c.args.at.difference in
     let k = c.printed_coefficient.result in
-    let square : k * k * 1000 ≡ economy_factor (shape_of c.args.line) = c.printed_coefficient.ensures.0 ∙ ap economy_factor c.shape.ensures in
+    let square : k * k * 1000 ≡ economy_factor (shape_of c.args.at.line.line) = c.printed_coefficient.ensures.0 ∙ ap economy_factor c.shape.ensures in
     c.root.ensures ∙ ap (λ (n : ℕ). root_bounds (n over (terms.insulation * terms.share))) (omega (arith, ap (λ (t : ℕ). t * x) square))

@@ -1,5 +1,5 @@
 -- The law of a root in two parts.
-use Rattle.std.proofs.Common.{◌*◌, ◌%◌, ◌^◌, arith}
+use Rattle.std.proofs.Common.{◌*◌, ◌%◌, ◌^◌, ◌∙◌, arith}
 use native.Mathlib.Nat.{mod-lt}
 use Rattle.fractions.proofs.Sides.{both_of}
 use Rattle.roots.proofs.Parts.{first_part, both_parts, product_le}
@@ -16,14 +16,8 @@ increment-v-requires c =
     let part = first_part c.args.k c.args.n c.args.d c.whole_root-u.result c.requires.0 c.requires.1 c.requires.3 got.0 got.1 got.2 in
     (omega (arith, part), omega (arith, part), omega (arith, part), omega arith)
 
-pub returns-then-exact : goal.returns-then-exact
-returns-then-exact c =
+pub returns : goal.returns
+returns c =
     let got = c.increment-v.ensures in
     let parts = both_parts c.args.k c.args.n c.args.d c.whole_root-u.result c.increment-v.result c.requires.3 c.whole_root-u.ensures.0 got.0 got.1 in
-    both_of parts.lower (parts.exact (omega arith))
-
-pub returns-else-exact : goal.returns-else-exact
-returns-else-exact c =
-    let got = c.increment-v.ensures in
-    let parts = both_parts c.args.k c.args.n c.args.d c.whole_root-u.result c.increment-v.result c.requires.3 c.whole_root-u.ensures.0 got.0 got.1 in
-    both_of parts.lower (parts.next (omega arith))
+    c.from_floor.ensures ∙ both_of parts.lower parts.upper

@@ -1,9 +1,12 @@
 -- No more failed than were run, and each took a byte.
-use Rattle.std.proofs.Common.{◌-◌, ◌≤◌, length}
+use Rattle.std.proofs.Common.{◌+◌, ◌≤◌, length}
+use Rattle.std.specs.Slice.Iter.{split_inclusive_rest}
 use Rattle.vectors.proofs.run.Given as goal
 
-abbrev pub invariant-loop-from : goal.invariant-loop-from
-invariant-loop-from g l = (l.failed ≤ l.count) × (l.count ≤ l.from) × (l.from ≤ length l.vectors)
-
-abbrev pub decreases-loop-from : goal.decreases-loop-from
-decreases-loop-from g l = length l.vectors - l.from
+abbrev pub invariant-loop-line : goal.invariant-loop-line
+invariant-loop-line l = record {
+  next : goal.iterator-loop-line.can_next l.line-iterator;
+  finite : goal.iterator-loop-line.is_finite l.line-iterator;
+  failed : l.failed ≤ l.count;
+  counted : l.count + length (split_inclusive_rest l.line-iterator) ≤ length l.vectors;
+}

@@ -1,19 +1,19 @@
 -- The product of a year fits, and a year more is the last one.
 use Rattle.std.proofs.Common.{◌-◌, ap, sym, ◌∙◌, arith}
-use Rattle.amortization.specs.Growth.{year as growth_year, growth as growth_growth, rounded_to}
+use Rattle.amortization.specs.Growth.{year, growth}
 use Rattle.amortization.proofs.Growth.{year_fits, last_year}
 use Rattle.amortization.proofs.compounding.+growth.Goals as goal
 
-pub year-requires-clause-product_bound : goal.year-requires-clause-product_bound
-year-requires-clause-product_bound t c =
-    let fits = year_fits c.args.rounding c.args.rate (c.args.left - 1) c.requires.rate_bound (omega arith) in
-    rw c.growth.ensures (omega (arith, fits))
+pub overflow_mul-before : goal.overflow_mul-before
+overflow_mul-before g t c =
+    let fits = year_fits g.R.Rounding.rounded g.met.R.Rounding.at_most c.args.rate (c.args.left - 1) c.requires.rate_bound (omega arith) in
+    rw c.growth-before.ensures (omega (arith, fits))
 
 pub returns-then-more : goal.returns-then-more
-returns-then-more t c =
-    let round = rounded_to c.args.rounding in
-    c.year.ensures ∙ ap (growth_year round c.args.rate) c.growth.ensures ∙ sym (last_year round c.args.rate c.args.left (omega arith))
+returns-then-more g t c =
+    let round = g.R.Rounding.rounded in
+    c.round.ensures ∙ ap (year round c.args.rate) c.growth-before.ensures ∙ sym (last_year round c.args.rate c.args.left (omega arith))
 
 pub returns-else-more : goal.returns-else-more
-unfolding growth_growth
-returns-else-more t c = ap (growth_growth (rounded_to c.args.rounding) c.args.rate) {x = 0} {y = c.args.left} (omega arith)
+unfolding growth
+returns-else-more g t c = ap (growth g.R.Rounding.rounded c.args.rate) {x = 0} {y = c.args.left} (omega arith)

@@ -2,4 +2,4 @@
 use Rattle.amortization.proofs.compounding.+growth.Given as goal
 
 abbrev pub decreases-growth : goal.decreases-growth
-decreases-growth l = l.left
+decreases-growth g l = l.left

@@ -1,13 +1,14 @@
--- The lines of the first k chunks are put. The measure is what is left of the chunks.
-use Rattle.std.proofs.Common.{◌≡◌, ◌-◌, ◌*◌, ◌≤◌, length}
-use Rattle.overlay.specs.Overlay.{Written}
-use Rattle.text.specs.Text.{concatenated}
-use Rattle.listing_text.specs.Listing.{chunks, line_at}
+-- The lines so far, and then those of what is left.
+use Rattle.std.proofs.Common.{◌≡◌, ◌+◌, ◌*◌, ◌≤◌, ◌++◌, length}
+use Rattle.std.specs.Slice.Iter.{chunks_rest, chunks_size}
+use Rattle.listing_text.specs.Listing.{chunks, lines_of}
 use Rattle.listing_text.proofs.block.put_lines.Given as goal
 
-abbrev pub invariant-loop-k : goal.invariant-loop-k
-invariant-loop-k l =
-    (l.k ≤ chunks l.sheets) × (l.end ≤ 108 * l.k) × (length l.out ≡ length l.initial.out) × Written l.initial.out 0 (concatenated (line_at l.sheets) l.k) l.out l.end
-
-abbrev pub decreases-loop-k : goal.decreases-loop-k
-decreases-loop-k l = chunks l.sheets - l.k
+abbrev pub invariant-loop-sheet : goal.invariant-loop-sheet
+invariant-loop-sheet g l = record {
+  next : (goal.iterator-loop-sheet g).can_next l.sheet-iterator;
+  finite : (goal.iterator-loop-sheet g).is_finite l.sheet-iterator;
+  size : chunks_size l.sheet-iterator ≡ 24;
+  written : l.text ++ lines_of (chunks_rest l.sheet-iterator) ≡ l.initial.text ++ lines_of l.sheets;
+  room : length l.text + 108 * chunks (chunks_rest l.sheet-iterator) ≤ length l.initial.text + 108 * chunks l.sheets;
+}

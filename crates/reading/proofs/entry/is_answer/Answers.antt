@@ -3,6 +3,5 @@ use lib.Pointwise.{bytes_decides}
 use Rattle.book.proofs.Sameness.{compared}
 use Rattle.reading.proofs.entry.is_answer.Goals as goal
 
-pub returns-in-Answered : goal.returns-in-Answered
-returns-in-Answered c =
-    rw (← c.in-Answered.ensures, ← c.encode-bytes.ensures, ← c.as_slice.ensures, c.eq.ensures) (compared _ _ _ (bytes_decides _ _))
+pub returns-in-Ok : goal.returns-in-Ok
+returns-in-Ok c = rw (← c.in-Ok.ensures, ← c.encode.ensures, ← c.as_slice.ensures, c.eq.ensures) (compared _ _ _ (bytes_decides _ _))

@@ -1,14 +1,17 @@
--- The first rung that does not miss lies from low to high. The measure is the distance between the two.
-use Rattle.std.proofs.Common.{◌≡◌, ◌-◌, ◌≤◌, ◌<◌}
-use Rattle.lengths.specs.Ladder.{rungs, thickness_at}
-use Rattle.provision.specs.Provided.{provided}
+-- The first rung that does not miss lies from low to high, and what is found is rung high, where there is one. The measure is the distance
+-- between the two.
+use Rattle.std.proofs.Common.{◌≡◌, ◌-◌, ◌≤◌, cond}
+use Rattle.std.specs.Prelude.{ltb, Some, None}
+use Rattle.lengths.specs.Ladder.{rungs}
 use Rattle.verdict.specs.Verdict.{verdict_of, first_not_insufficient}
+use Rattle.verdict.specs.Choice.{rung}
 use Rattle.verdict.proofs.choice.search.Given as goal
 
 abbrev pub invariant-ladder : goal.invariant-ladder
 invariant-ladder l =
-    let first = first_not_insufficient (verdict_of l.prepared.line l.required) in
-    (l.likely ≤ rungs) × (l.low ≤ first) × (first ≤ l.high) × (l.high ≤ rungs) × (l.high < rungs → l.provided ≡ provided l.prepared.line (thickness_at l.high))
+    let line = l.prepared.line.line in
+    let first = first_not_insufficient (verdict_of line l.required) in
+    (l.likely ≤ rungs) × (l.low ≤ first) × (first ≤ l.high) × (l.high ≤ rungs) × (l.found ≡ cond (ltb l.high rungs) (Some (rung line l.high)) None)
 
 abbrev pub decreases-ladder : goal.decreases-ladder
 decreases-ladder l = l.high - l.low

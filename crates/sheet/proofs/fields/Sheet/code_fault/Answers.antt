@@ -1,11 +1,11 @@
 -- Only the two codes can be unknown.
-use Rattle.sheet.specs.Sheet.{uses_economy, uses_aim}
-use Rattle.sheet.specs.Fields.{first_fault}
-use Rattle.sheet.proofs.FirstFault.{no_codes}
+use Rattle.std.proofs.Common.{sym, ◌∙◌, None}
+use Rattle.sheet.specs.Fields.{codes}
+use Rattle.sheet.proofs.FirstFault.{by_field, is_by_field, unknown_code}
 use Rattle.sheet.proofs.fields.Sheet.code_fault.Goals as goal
 
 pub returns : goal.returns
-unfolding first_fault
+unfolding by_field
 returns c =
     let s = c.args.self in
-    rw (c.fault_or.ensures, c.fault_or-service.ensures, no_codes s (uses_economy s.goal) (uses_aim s.goal))
+    rw (c.or.ensures, c.fault.ensures, c.fault-2.ensures) (is_by_field 12 (codes s) None ∙ sym (unknown_code s))
