@@ -1,4 +1,5 @@
-// Numbers in bytes, big-endian.
+// Numbers in bytes, big-endian. Each function takes all bytes and an offset, and no part of them: so a contract says where in a sheet or a book
+// a number stands.
 #![tactic(auto)]
 
 ghost use Rattle.std.specs.Prelude.{◌≡◌, ◌+◌, ◌^◌, ◌≤◌, ◌<◌, length};

@@ -16,7 +16,7 @@ fn digit(b: u8) -> Option<u8>
     Some((index % 16) as u8)
 }
 
-// The index of the first b among digits.
+// The index of the first b among digits: a function of its own, since within `digit` the proof of its value did not close.
 fn find(digits: &[u8], b: u8) -> Option<usize>
     ensures { result ≡ position (λ digit. digit == b) digits.now }
 {

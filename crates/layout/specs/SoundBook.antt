@@ -1,4 +1,4 @@
--- A sound book with its sizes, as the inner functions of filing and reading ask for it.
+-- A sound book with its sizes: what a `Book` is, and what `enter` asks for.
 -- Assumes nothing.
 use Rattle.std.specs.Prelude.{ℕ, ◌≤◌, ◌≡◌, List, length}
 use Rattle.layout.specs.declared.offsets.Layout.{Layout}

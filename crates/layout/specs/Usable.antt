@@ -1,4 +1,4 @@
--- What the inner functions ask of a layout. The calls ask nothing: 01's layout meets this.
+-- What a `BookLayout` is. The calls ask nothing: 01's layout meets this.
 -- Assumes nothing.
 use Rattle.std.specs.Prelude.{◌^◌, ◌≤◌, ◌<◌}
 use Rattle.layout.specs.declared.offsets.Layout.{Layout}

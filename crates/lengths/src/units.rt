@@ -1,4 +1,4 @@
-// Lengths in two units, which one function joins.
+// Lengths in two units, which one function joins: two types, as 01 asks, so that neither is taken for the other.
 ghost use Rattle.std.specs.Prelude.{◌≡◌, ◌^◌, ◌<◌};
 ghost use Rattle.lengths.specs.Units.{outer_diameter};
 

@@ -49,6 +49,7 @@ pub fn loss_limit(service: u64, temperature: Temperature) -> Option<u64>
     let row = past / 500;
     let beyond = past % 500;
     let low = row_limit(row, service)?;
+    // two answers of one kind: joined by `||`, the proof of three goals did not close
     let keeps_row = service <= 2;
     if keeps_row {
         return Some(low);

@@ -66,6 +66,7 @@ fn list_all<R: io::Read, const N: usize>(
     Ok(())
 }
 
+// The block is an array and a length beside it, since a read fills lent bytes.
 fn main(rt: HostRuntime) {
     let mut block = [0; 512 * 24];
     let mut text: Text<65536> = Text::new();

@@ -81,7 +81,7 @@ fn insulation(p: Provision, k: Thickness) -> Bounds
 }
 
 // What insulation of thickness k provides around a pipe of diameter d, to which the logarithm from 10.0 mm is `inner`. A diameter is the tuple
-// struct that 01 asks for, so its range is asked for.
+// struct that 01 asks for, which has no ghost field, so its range is asked for.
 fn cylinder_insulation(inner: Bounds, d: Diameter, k: Thickness) -> Bounds
     requires { (inner ≡ log_bounds (tenths 100) d) × (100 ≤ d.0) × (d.0 ≤ 10_000) × (k.0 ≤ 300) }
     ensures { result ≡ insulation_bounds Cylinder d k }

@@ -14,7 +14,7 @@ use crate::entry::entry_of;
 use layout::BookLayout;
 use refusals::Refusal;
 
-// Reads an entry into the two lent arrays, after working its sheet out again.
+// Reads an entry into the two arrays, which are lent as the C interface lends them, after working its sheet out again.
 pub fn read(
     book: &[u8],
     entry: u64,

@@ -10,7 +10,7 @@ use crate::{GoalCode, Sheet};
 use refusals::outside;
 use temperatures::Temperature;
 
-// The offset of a field whose value is outside its range.
+// The offset of a field whose value is outside its range. Four numbers and no struct, which each call would write out at once.
 fn fault(offset: u64, value: u64, least: u64, most: u64) -> Option<u64>
     ensures { result ≡ then_some (outside value least most) offset }
 {

@@ -72,6 +72,7 @@ pub struct Sheet {
 }
 
 impl Sheet {
+    // The sheet that 24 bytes are. No `From`: a slice may have any length, which the call tests.
     #[tactic(auto, unfolding(crate::specs::Sheet::decoded))]
     pub fn decode(bytes: &[u8]) -> Sheet
         requires { length bytes.now ≡ 24 }

@@ -23,7 +23,8 @@ impl fmt::Display for Failure {
     }
 }
 
-// Reads until the block is full, the input ends or a read fails. Returns how many bytes that brought, and whether no read failed.
+// Reads until the block is full, the input ends or a read fails. Returns how many bytes that brought, and beside it whether no read failed:
+// what came before a read that failed counts too.
 // A loop of its own: no method of io::Read says how much came before the input ended.
 #[tactic(auto, using(crate::proofs::Consumed::more))]
 pub fn fill<R: io::Read>(reader: &mut R, block: &mut [u8]) -> (usize, Result<(), Failure>)
@@ -65,7 +66,7 @@ pub fn write(rt: &impl Print, bytes: &[u8]) -> Result<(), Failure>
     rt.write_all(bytes).map_err(|_| Failure::Write)
 }
 
-// Says on standard error why a program stops, if that can be written.
+// Says on standard error why a program stops, if that can be written. No contract: nothing rests on it.
 pub fn complain(rt: &impl Eprint, program: &str, why: &impl fmt::Display) {
     let _ = eprintln!(rt; "{program}: {why}");
 }

@@ -106,6 +106,7 @@ fn run(rt: &HostRuntime, vectors: &[u8]) -> Result<(), Failure> {
     sum_up(rt, count, failed)
 }
 
+// The room is an array and a length beside it, since a read fills lent bytes.
 fn main(rt: HostRuntime) {
     let mut room = [0; 262144];
     let (length, read) = fill(&mut rt.stdin(), &mut room);
