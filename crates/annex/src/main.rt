@@ -8,7 +8,7 @@ ghost use Rattle.annex.specs.Page.{line, entry_line, limits_line, page};
 
 use fractions::Bounds;
 use streams::{complain, write};
-use text::Text;
+use text::{Sink, Text};
 
 // Puts the line of a whole millimetre.
 fn put_line<const N: usize>(text: &mut Text<N>, mm: u64, figures: Bounds)

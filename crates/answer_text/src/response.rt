@@ -8,23 +8,23 @@ use crate::words::{put_check, put_degrees, put_shape};
 use big_endian::unsigned;
 use refusals::Refusal;
 use temperatures::Temperature;
-use text::Text;
+use text::Sink;
 
 // Puts the word refused and the refusal's number.
-pub fn put_refusal<const N: usize>(text: &mut Text<N>, why: Refusal)
-    requires { length text.old + 28 ≤ N }
-    ensures written { text.new ≡ text.old ++ response_text (refused (number_of why)) }
-    ensures upper_bound { length text.new ≤ length text.old + 28 }
+pub fn put_refusal<S: Sink>(text: &mut S, why: Refusal)
+    requires { S.filled text.old + 28 ≤ S.room text.old }
+    ensures written { text.new ≡ S.with_text text.old (response_text (refused (number_of why))) }
+    ensures upper_bound { S.filled text.new ≤ S.filled text.old + 28 }
 {
     text.put(b"refused ");
     text.put_decimal(why.number() as u64);
 }
 
 // Puts the eight bytes of an answer in words and figures.
-pub fn put_answer<const N: usize>(text: &mut Text<N>, answer: &[u8])
-    requires { (length answer.now ≡ 8) × (length text.old + 86 ≤ N) }
-    ensures written { text.new ≡ text.old ++ answer_text answer.now }
-    ensures upper_bound { length text.new ≤ length text.old + 86 }
+pub fn put_answer<S: Sink>(text: &mut S, answer: &[u8])
+    requires { (length answer.now ≡ 8) × (S.filled text.old + 86 ≤ S.room text.old) }
+    ensures written { text.new ≡ S.with_text text.old (answer_text answer.now) }
+    ensures upper_bound { S.filled text.new ≤ S.filled text.old + 86 }
 {
     put_shape(text, answer[1]);
     text.put_decimal_and(unsigned(answer, 2), b' ');
@@ -32,10 +32,10 @@ pub fn put_answer<const N: usize>(text: &mut Text<N>, answer: &[u8])
 }
 
 // The two checks of an answer, and its surface bound.
-fn put_checks<const N: usize>(text: &mut Text<N>, answer: &[u8])
-    requires { (length answer.now ≡ 8) × (length text.old + 56 ≤ N) }
-    ensures written { text.new ≡ text.old ++ checks_text answer.now }
-    ensures upper_bound { length text.new ≤ length text.old + 56 }
+fn put_checks<S: Sink>(text: &mut S, answer: &[u8])
+    requires { (length answer.now ≡ 8) × (S.filled text.old + 56 ≤ S.room text.old) }
+    ensures written { text.new ≡ S.with_text text.old (checks_text answer.now) }
+    ensures upper_bound { S.filled text.new ≤ S.filled text.old + 56 }
 {
     put_check(text, answer[4]);
     put_check(text, answer[5]);

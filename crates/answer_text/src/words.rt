@@ -4,13 +4,13 @@ ghost use Rattle.std.specs.Prelude.{◌≡◌, ◌+◌, ◌≤◌, ◌++◌, len
 ghost use Rattle.answer_text.specs.Response.{shape_word, check_word, tenths, degrees, spaced};
 
 use temperatures::Temperature;
-use text::Text;
+use text::Sink;
 
 // The word for a shape, and a space.
-pub(crate) fn put_shape<const N: usize>(text: &mut Text<N>, code: u8)
-    requires { length text.old + 9 ≤ N }
-    ensures written { text.new ≡ text.old ++ spaced (shape_word code) }
-    ensures upper_bound { length text.new ≤ length text.old + 9 }
+pub(crate) fn put_shape<S: Sink>(text: &mut S, code: u8)
+    requires { S.filled text.old + 9 ≤ S.room text.old }
+    ensures written { text.new ≡ S.with_text text.old (spaced (shape_word code)) }
+    ensures upper_bound { S.filled text.new ≤ S.filled text.old + 9 }
 {
     match code {
         1 => text.put(b"cylinder "),
@@ -19,10 +19,10 @@ pub(crate) fn put_shape<const N: usize>(text: &mut Text<N>, code: u8)
 }
 
 // The word for a check, and a space.
-pub(crate) fn put_check<const N: usize>(text: &mut Text<N>, code: u8)
-    requires { length text.old + 7 ≤ N }
-    ensures written { text.new ≡ text.old ++ spaced (check_word code) }
-    ensures upper_bound { length text.new ≤ length text.old + 7 }
+pub(crate) fn put_check<S: Sink>(text: &mut S, code: u8)
+    requires { S.filled text.old + 7 ≤ S.room text.old }
+    ensures written { text.new ≡ S.with_text text.old (spaced (check_word code)) }
+    ensures upper_bound { S.filled text.new ≤ S.filled text.old + 7 }
 {
     match code {
         0 => text.put(b"within "),
@@ -33,10 +33,10 @@ pub(crate) fn put_check<const N: usize>(text: &mut Text<N>, code: u8)
 }
 
 // Tenths as a decimal number.
-fn put_tenths<const N: usize>(text: &mut Text<N>, n: u64)
-    requires { length text.old + 41 ≤ N }
-    ensures written { text.new ≡ text.old ++ tenths n }
-    ensures upper_bound { length text.new ≤ length text.old + 41 }
+fn put_tenths<S: Sink>(text: &mut S, n: u64)
+    requires { S.filled text.old + 41 ≤ S.room text.old }
+    ensures written { text.new ≡ S.with_text text.old (tenths n) }
+    ensures upper_bound { S.filled text.new ≤ S.filled text.old + 41 }
 {
     text.put_decimal(n / 10);
     text.put(b".");
@@ -44,10 +44,10 @@ fn put_tenths<const N: usize>(text: &mut Text<N>, n: u64)
 }
 
 // A temperature in degrees.
-pub(crate) fn put_degrees<const N: usize>(text: &mut Text<N>, t: Temperature)
-    requires { length text.old + 42 ≤ N }
-    ensures written { text.new ≡ text.old ++ degrees t }
-    ensures upper_bound { length text.new ≤ length text.old + 42 }
+pub(crate) fn put_degrees<S: Sink>(text: &mut S, t: Temperature)
+    requires { S.filled text.old + 42 ≤ S.room text.old }
+    ensures written { text.new ≡ S.with_text text.old (degrees t) }
+    ensures upper_bound { S.filled text.new ≤ S.filled text.old + 42 }
 {
     let below = t.0 < Temperature::ZERO;
     if below {

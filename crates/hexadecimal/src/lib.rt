@@ -4,7 +4,7 @@
 ghost use Rattle.std.specs.Prelude.{◌≡◌, ◌<◌, IfSome, position, ◌==◌};
 ghost use Rattle.hexadecimal.specs.Hex.{digit_of, byte_of, bytes_of};
 
-use text::Text;
+use text::{Sink, Text};
 
 // The value of a digit in lower or upper case: its index among the sixteen of its case.
 #[tactic(auto, unfolding(crate::specs::Hex::digit_of))]

@@ -7,14 +7,14 @@ ghost use Rattle.listing_text.specs.Line.{line_number_text, line_of};
 use answer_text::{put_answer, put_refusal};
 use big_endian::unsigned;
 use outcome::work_out;
-use text::Text;
+use text::Sink;
 
 // Puts the line for a sheet. A line has no more than 108 bytes.
 #[tactic(auto, unfolding(crate::specs::Line::line_of))]
-pub fn put_line<const N: usize>(text: &mut Text<N>, sheet: &[u8])
-    requires { length text.old + 108 ≤ N }
-    ensures written { text.new ≡ text.old ++ line_of sheet.now }
-    ensures upper_bound { length text.new ≤ length text.old + 108 }
+pub fn put_line<S: Sink>(text: &mut S, sheet: &[u8])
+    requires { S.filled text.old + 108 ≤ S.room text.old }
+    ensures written { text.new ≡ S.with_text text.old (line_of sheet.now) }
+    ensures upper_bound { S.filled text.new ≤ S.filled text.old + 108 }
 {
     put_line_number(text, sheet);
     put_response(text, sheet);
@@ -22,10 +22,10 @@ pub fn put_line<const N: usize>(text: &mut Text<N>, sheet: &[u8])
 }
 
 // The line number, and a space.
-fn put_line_number<const N: usize>(text: &mut Text<N>, sheet: &[u8])
-    requires { length text.old + 21 ≤ N }
-    ensures written { text.new ≡ text.old ++ spaced (line_number_text sheet.now) }
-    ensures upper_bound { length text.new ≤ length text.old + 21 }
+fn put_line_number<S: Sink>(text: &mut S, sheet: &[u8])
+    requires { S.filled text.old + 21 ≤ S.room text.old }
+    ensures written { text.new ≡ S.with_text text.old (spaced (line_number_text sheet.now)) }
+    ensures upper_bound { S.filled text.new ≤ S.filled text.old + 21 }
 {
     if sheet.len() == 24 {
         return text.put_decimal_and(unsigned(sheet, 2), b' ');
@@ -34,10 +34,10 @@ fn put_line_number<const N: usize>(text: &mut Text<N>, sheet: &[u8])
 }
 
 // What a sheet comes to.
-fn put_response<const N: usize>(text: &mut Text<N>, sheet: &[u8])
-    requires { length text.old + 86 ≤ N }
-    ensures written { text.new ≡ text.old ++ response_text (response_to sheet.now) }
-    ensures upper_bound { length text.new ≤ length text.old + 86 }
+fn put_response<S: Sink>(text: &mut S, sheet: &[u8])
+    requires { S.filled text.old + 86 ≤ S.room text.old }
+    ensures written { text.new ≡ S.with_text text.old (response_text (response_to sheet.now)) }
+    ensures upper_bound { S.filled text.new ≤ S.filled text.old + 86 }
 {
     match work_out(sheet) {
         Ok(answer) => put_answer(text, &answer.encode()),

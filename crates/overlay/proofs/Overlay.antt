@@ -11,7 +11,7 @@ use lib.Seq.{take_all, take-append_seam, drop-append-add, drop-drop}
 use Rattle.overlay.specs.Overlay.{overlay, Written}
 
 -- one piece after another is the two as one piece
-overlay_more : (b : List ℕ) (offset : ℕ) (v w : List ℕ) → overlay (overlay b offset v) (offset + length v) w ≡ overlay b offset (v ++ w)
+pub overlay_more : (b : List ℕ) (offset : ℕ) (v w : List ℕ) → overlay (overlay b offset v) (offset + length v) w ≡ overlay b offset (v ++ w)
 unfolding overlay
 overlay_more b zero v w =
     simp (zero-add, length-append) (rw (take-append_seam v (drop (length v) b), drop-append-add v (drop (length v) b) (length w), drop-drop))

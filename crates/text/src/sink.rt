@@ -1,0 +1,50 @@
+// What pieces are put into.
+ghost use Rattle.std.specs.Prelude.{◌≡◌, ℕ, ◌+◌, ◌≤◌, List, [], ◌++◌, length};
+ghost use Rattle.text.specs.Text.{decimal, decimal_and};
+
+// Room for a text, which may start with bytes that are there already.
+pub trait Sink {
+    // it, with these bytes put at the end
+    ghost with_text: { Self → List ℕ → Self };
+
+    // how many bytes of the room are filled
+    ghost filled: { Self → ℕ };
+
+    // how many bytes the room has in all
+    ghost room: { Self → ℕ };
+
+    // Puts a piece at the end.
+    fn put(&mut self, piece: &[u8])
+        requires { filled self.old + length piece.now ≤ room self.old }
+        ensures { self.new ≡ with_text self.old piece.now };
+
+    ghost none: { (s : Self) → with_text s [] ≡ s };
+
+    ghost then: { (s : Self) (a b : List ℕ) → with_text (with_text s a) b ≡ with_text s (a ++ b) };
+
+    ghost filled_after: { (s : Self) (a : List ℕ) → filled (with_text s a) ≡ filled s + length a };
+
+    ghost room_after: { (s : Self) (a : List ℕ) → filled s + length a ≤ room s → room (with_text s a) ≡ room s };
+
+    // Puts n in decimal digits, of which a u64 has 20 at the most. `io::decimal` fills lent bytes and returns their number.
+    #[tactic(auto, using(crate::proofs::Decimal::fewest))]
+    final fn put_decimal(&mut self, n: u64)
+        requires { filled self.old + 20 ≤ room self.old }
+        ensures written { self.new ≡ with_text self.old (decimal n) }
+        ensures upper_bound { filled self.new ≤ filled self.old + 20 }
+    {
+        let mut digits = [0u8; 20];
+        let k = io::decimal(n, &mut digits);
+        self.put(&digits[..k]);
+    }
+
+    // Puts the digits of n and one byte after them.
+    final fn put_decimal_and(&mut self, n: u64, after: u8)
+        requires { filled self.old + 21 ≤ room self.old }
+        ensures written { self.new ≡ with_text self.old (decimal_and n after) }
+        ensures upper_bound { filled self.new ≤ filled self.old + 21 }
+    {
+        self.put_decimal(n);
+        self.put(&[after]);
+    }
+}
