@@ -6,15 +6,16 @@ ghost use Rattle.annex_tables.specs.Annex.{entries};
 ghost use Rattle.text.specs.Text.{concatenated};
 ghost use Rattle.annex.specs.Page.{line, entry_line, limits_line, page};
 
+use arrayvec::ArrayVec;
 use fractions::Bounds;
 use streams::{complain, write};
-use text::{Sink, Text};
+use text::Sink;
 
 // Puts the line of a whole millimetre.
-fn put_line<const N: usize>(text: &mut Text<N>, mm: u64, figures: Bounds)
-    requires { length text.old + 63 ≤ N }
-    ensures written { text.new ≡ text.old ++ line mm figures }
-    ensures upper_bound { length text.new ≤ length text.old + 63 }
+fn put_line<const N: usize>(text: &mut ArrayVec<u8, N>, mm: u64, figures: Bounds)
+    requires { length text.old.items + 63 ≤ N }
+    ensures written { text.new.items ≡ text.old.items ++ line mm figures }
+    ensures upper_bound { length text.new.items ≤ length text.old.items + 63 }
 {
     text.put_decimal_and(mm, b' ');
     text.put_decimal_and(figures.lower, b' ');
@@ -23,10 +24,10 @@ fn put_line<const N: usize>(text: &mut Text<N>, mm: u64, figures: Bounds)
 
 // Puts the lines of all entries.
 #[tactic(auto, using(text::proofs::Concatenated::concatenations))]
-fn put_figures<const N: usize>(text: &mut Text<N>)
-    requires { length text.old + 63 * entries ≤ N }
-    ensures written { text.new ≡ text.old ++ concatenated entry_line entries }
-    ensures upper_bound { length text.new ≤ length text.old + 63 * entries }
+fn put_figures<const N: usize>(text: &mut ArrayVec<u8, N>)
+    requires { length text.old.items + 63 * entries ≤ N }
+    ensures written { text.new.items ≡ text.old.items ++ concatenated entry_line entries }
+    ensures upper_bound { length text.new.items ≤ length text.old.items + 63 * entries }
 {
     for k in 0..annex_tables::ENTRIES {
         put_line(text, 10 + k as u64, annex_tables::entry(k));
@@ -35,10 +36,10 @@ fn put_figures<const N: usize>(text: &mut Text<N>)
 
 // Puts the loss limits on one line.
 #[tactic(auto, using(text::proofs::Concatenated::concatenations))]
-fn put_limits<const N: usize>(text: &mut Text<N>)
-    requires { length text.old + 26 * 21 ≤ N }
-    ensures written { text.new ≡ text.old ++ limits_line }
-    ensures upper_bound { length text.new ≤ length text.old + 26 * 21 }
+fn put_limits<const N: usize>(text: &mut ArrayVec<u8, N>)
+    requires { length text.old.items + 26 * 21 ≤ N }
+    ensures written { text.new.items ≡ text.old.items ++ limits_line }
+    ensures upper_bound { length text.new.items ≤ length text.old.items + 26 * 21 }
 {
     let table = limits::flat_table();
     for limit in &table[..25] {
@@ -48,10 +49,10 @@ fn put_limits<const N: usize>(text: &mut Text<N>)
 }
 
 // Puts the whole page.
-fn put_page<const N: usize>(text: &mut Text<N>)
-    requires { length text.old + 14 + 63 * entries + 7 + 26 * 21 ≤ N }
-    ensures written { text.new ≡ text.old ++ page }
-    ensures upper_bound { length text.new ≤ length text.old + 14 + 63 * entries + 7 + 26 * 21 }
+fn put_page<const N: usize>(text: &mut ArrayVec<u8, N>)
+    requires { length text.old.items + 14 + 63 * entries + 7 + 26 * 21 ≤ N }
+    ensures written { text.new.items ≡ text.old.items ++ page }
+    ensures upper_bound { length text.new.items ≤ length text.old.items + 14 + 63 * entries + 7 + 26 * 21 }
 {
     text.put(b"mm under over\n");
     put_figures(text);
@@ -60,7 +61,7 @@ fn put_page<const N: usize>(text: &mut Text<N>)
 }
 
 fn main(rt: HostRuntime) {
-    let mut text: Text<131072> = Text::new();
+    let mut text: ArrayVec<u8, 131072> = ArrayVec::new();
     put_page(&mut text);
     if let Err(failure) = write(&rt, text.as_slice()) {
         complain(&rt, "annex", &failure);

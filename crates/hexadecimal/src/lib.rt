@@ -2,9 +2,10 @@
 #![tactic(auto)]
 
 ghost use Rattle.std.specs.Prelude.{◌≡◌, ◌<◌, IfSome, position, ◌==◌};
+ghost use Rattle.std.specs.Option.{option_map};
 ghost use Rattle.hexadecimal.specs.Hex.{digit_of, byte_of, bytes_of};
 
-use text::{Sink, Text};
+use arrayvec::ArrayVec;
 
 // The value of a digit in lower or upper case: its index among the sixteen of its case.
 #[tactic(auto, unfolding(crate::specs::Hex::digit_of))]
@@ -33,16 +34,16 @@ fn pair(high: u8, low: u8) -> Option<u8>
 
 // The bytes that a text writes, 64 at the most.
 #[tactic(auto, using(crate::proofs::Pairs::laws))]
-pub fn decode(text: &[u8]) -> Option<Text<64>>
-    ensures { result ≡ bytes_of text.now }
+pub fn decode(text: &[u8]) -> Option<ArrayVec<u8, 64>>
+    ensures { option_map (λ bytes. bytes.items) result ≡ bytes_of text.now }
 {
     let odd = text.len() % 2 == 1;
     if odd || text.len() > 128 {
         return None;
     }
-    let mut bytes = Text::new();
+    let mut bytes = ArrayVec::new();
     for digits in text.chunks_exact(2) {
-        bytes.put(&[pair(digits[0], digits[1])?]);
+        bytes.push(pair(digits[0], digits[1])?);
     }
     Some(bytes)
 }

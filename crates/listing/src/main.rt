@@ -4,9 +4,9 @@
 ghost use Rattle.std.specs.Prelude.{◌≡◌, if◌then◌else◌, ◌-◌, ◌*◌, ◌%◌, ◌≤◌, length};
 ghost use Rattle.listing_text.specs.Listing.{lines_of};
 
+use arrayvec::ArrayVec;
 use std::io;
 use streams::{Failure, complain, fill, write};
-use text::Text;
 
 // How many bytes of a block are listed: all, but where a read failed no more than the whole sheets.
 fn listed_length(length: usize, failed: bool) -> usize
@@ -21,9 +21,9 @@ fn listed_length(length: usize, failed: bool) -> usize
 
 // Writes the lines of a block of at most 512 sheets, which it puts in the text first. The functions that list take the stream, the block and
 // the text one by one: a struct of the three would be no plainer, since nothing else takes it and each borrow is of one part.
-fn list<const N: usize>(rt: &impl Print, sheets: &[u8], text: &mut Text<N>) -> Result<(), Failure>
+fn list<const N: usize>(rt: &impl Print, sheets: &[u8], text: &mut ArrayVec<u8, N>) -> Result<(), Failure>
     requires { (length sheets.now ≤ 12_288) × (108 * 512 ≤ N) }
-    ensures { text.new ≡ lines_of sheets.now }
+    ensures { text.new.items ≡ lines_of sheets.now }
 {
     text.clear();
     listing_text::put_lines(text, sheets);
@@ -35,7 +35,7 @@ fn list_block<R: io::Read, const N: usize>(
     rt: &impl Print,
     reader: &mut R,
     block: &mut [u8],
-    text: &mut Text<N>,
+    text: &mut ArrayVec<u8, N>,
 ) -> Result<bool, Failure>
     requires { (length block.old ≤ 12_288) × (108 * 512 ≤ N) }
 {
@@ -51,7 +51,7 @@ fn list_all<R: io::Read, const N: usize>(
     rt: &impl Print,
     reader: &mut R,
     block: &mut [u8],
-    text: &mut Text<N>,
+    text: &mut ArrayVec<u8, N>,
 ) -> Result<(), Failure>
     requires { (length block.old ≤ 12_288) × (108 * 512 ≤ N) }
 {
@@ -69,7 +69,7 @@ fn list_all<R: io::Read, const N: usize>(
 // The block is an array and a length beside it, since a read fills lent bytes.
 fn main(rt: HostRuntime) {
     let mut block = [0; 512 * 24];
-    let mut text: Text<65536> = Text::new();
+    let mut text: ArrayVec<u8, 65536> = ArrayVec::new();
     if let Err(failure) = list_all(&rt, &mut rt.stdin(), &mut block, &mut text) {
         complain(&rt, "listing", &failure);
     }

@@ -8,5 +8,4 @@ mod owned;
 mod sink;
 
 pub use lent::LentText;
-pub use owned::Text;
 pub use sink::Sink;

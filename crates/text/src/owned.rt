@@ -1,70 +1,27 @@
-// A text in fixed memory.
-// The kit's ArrayVec would be no plainer: it takes a piece by a method that returns a Result, so each function would handle a failure that the
-// room it asks for excludes.
-ghost use Rattle.std.specs.Prelude.{◌≡◌, ℕ, ◌+◌, ◌≤◌, List, [], ◌++◌, length, take};
+// Text in the kit's vector of fixed capacity, which lies in the value itself.
+ghost use Rattle.std.specs.Prelude.{◌++◌, length};
 ghost use Rattle.std.proofs.Common.{refl, append-nil, append_assoc, length-append};
 
 use crate::sink::Sink;
-use overlay::put;
-use std::marker::Model;
+use arrayvec::ArrayVec;
 
-// A text of at most N bytes.
-#[derive(Drop)]
-pub struct Text<const N: usize> {
-    bytes: [u8; N],
-    length: usize,
-}
+impl<const N: usize> Sink for ArrayVec<u8, N> {
+    ghost with_text = { λ v a. record { items = v.items ++ a } };
 
-// Clauses see the bytes of the text.
-impl<const N: usize> Model for Text<N> {
-    ghost Value = { List ℕ };
+    ghost filled = { λ v. length v.items };
 
-    ghost view = { λ t. take t.length t.bytes };
+    ghost room = { λ v. N };
 
-    ghost invariant = { λ t. t.length ≤ N };
-}
-
-impl<const N: usize> Text<N> {
-    pub fn new() -> Self
-        ensures { result ≡ [] }
-    {
-        Text {
-            bytes: [0; N],
-            length: 0,
-        }
-    }
-
-    pub fn as_slice(&self) -> &[u8]
-        ensures value { result.now ≡ self.now }
-        ensures within { length result.now ≤ N }
-    {
-        &self.bytes[..self.length]
-    }
-
-    pub fn clear(&mut self)
-        ensures { self.new ≡ [] }
-    {
-        self.length = 0;
-    }
-}
-
-impl<const N: usize> Sink for Text<N> {
-    ghost with_text = { λ t a. t ++ a };
-
-    ghost filled = { λ t. length t };
-
-    ghost room = { λ t. N };
-
-    #[tactic(auto, using(crate::proofs::Appended::appended))]
+    // The piece fits, so all of it is put.
     fn put(&mut self, piece: &[u8]) {
-        self.length = put(&mut self.bytes, self.length, piece);
+        let _ = self.try_extend_from_slice(piece);
     }
 
-    ghost none = { append-nil };
+    ghost none = { λ v. Prim.rw (append-nil v.items) refl };
 
-    ghost then = { append_assoc };
+    ghost then = { λ v a b. Prim.rw (append_assoc v.items a b) refl };
 
-    ghost filled_after = { length-append };
+    ghost filled_after = { λ v a. length-append v.items a };
 
-    ghost room_after = { λ t a fits. refl };
+    ghost room_after = { λ v a fits. refl };
 }

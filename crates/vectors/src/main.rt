@@ -2,14 +2,14 @@
 // bytes), and what is expected: the word refused and a number, or the eight bytes of an answer in hexadecimal.
 #![tactic(auto)]
 
+use arrayvec::ArrayVec;
 use hexadecimal::decode;
 use outcome::work_out;
 use streams::{Failure, complain, fill, write};
-use text::Text;
 
 // Writes the sheet's line of the listing.
 fn list(rt: &impl Print, sheet: &[u8]) -> Result<(), Failure> {
-    let mut line: Text<128> = Text::new();
+    let mut line: ArrayVec<u8, 128> = ArrayVec::new();
     listing_text::put_line(&mut line, sheet);
     write(rt, line.as_slice())
 }
@@ -24,7 +24,7 @@ fn comes_to(sheet: &[u8], expected: &[u8]) -> bool {
     match work_out(sheet) {
         Ok(answer) => writes(expected, &answer.encode()),
         Err(why) => {
-            let mut text: Text<28> = Text::new();
+            let mut text: ArrayVec<u8, 28> = ArrayVec::new();
             answer_text::put_refusal(&mut text, why);
             text.as_slice() == expected
         }

@@ -6,6 +6,6 @@ use Rattle.annex.proofs.put_figures.Given as goal
 
 abbrev pub invariant-loop-k : goal.invariant-loop-k
 invariant-loop-k g l = record {
-  written : l.text ≡ l.initial.text ++ concatenated entry_line l.k;
-  room : length l.text ≤ length l.initial.text + 63 * l.k;
+  written : l.text.items ≡ l.initial.text.items ++ concatenated entry_line l.k;
+  room : length l.text.items ≤ length l.initial.text.items + 63 * l.k;
 }

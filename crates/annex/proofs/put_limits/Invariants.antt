@@ -6,6 +6,6 @@ use Rattle.annex.proofs.put_limits.Given as goal
 
 abbrev pub invariant-loop-limit : goal.invariant-loop-limit
 invariant-loop-limit g l = record {
-  written : l.text ≡ l.initial.text ++ concatenated (limit 32) l.limit-index;
-  room : length l.text ≤ length l.initial.text + 21 * l.limit-index;
+  written : l.text.items ≡ l.initial.text.items ++ concatenated (limit 32) l.limit-index;
+  room : length l.text.items ≤ length l.initial.text.items + 21 * l.limit-index;
 }

@@ -10,6 +10,6 @@ invariant-loop-digits l = record {
   finite : goal.iterator-loop-digits.is_finite l.digits-iterator;
   size : chunks_exact_size l.digits-iterator ≡ 2;
   even : length (chunks_exact_rest l.digits-iterator) % 2 ≡ 0;
-  room : 2 * length l.bytes + length (chunks_exact_rest l.digits-iterator) ≤ 128;
-  written : bytes_of l.text ≡ pairs l.bytes (chunks_exact_rest l.digits-iterator);
+  room : 2 * length l.bytes.items + length (chunks_exact_rest l.digits-iterator) ≤ 128;
+  written : bytes_of l.text ≡ pairs l.bytes.items (chunks_exact_rest l.digits-iterator);
 }
