@@ -34,8 +34,9 @@ impl<'a> LentText<'a> {
 
 impl Sink for LentText<'_> {
     ghost with_text = { λ t a. record t {
-        bytes = record t.bytes { now = overlay t.bytes.now t.end a };
-        end = t.end + length a } };
+      bytes = record t.bytes { now = overlay t.bytes.now t.end a };
+      end = t.end + length a;
+    } };
 
     ghost filled = { λ t. t.end };
 
