@@ -38,6 +38,7 @@ pub fn flat_table() -> [u64; 26]
 
 // The limit of heat loss in 0.1 W/m² for a service and a pipe's temperature, where one is printed. A service is a number, as in a `Sheet`: the
 // list finds its place by arithmetic on it (02, N3).
+#[tactic(auto, using(crate::proofs::FlatTable::limit_is, crate::proofs::Rows::none_below))]
 pub fn loss_limit(service: u64, temperature: Temperature) -> Option<u64>
     requires { (1 ≤ service) × (service ≤ 4) × (temperature.0 ≤ (tenths_celsius 6_500).0) }
     ensures { result ≡ printed (loss_limit service temperature) }
@@ -49,12 +50,7 @@ pub fn loss_limit(service: u64, temperature: Temperature) -> Option<u64>
     let row = past / 500;
     let beyond = past % 500;
     let low = row_limit(row, service)?;
-    // two answers of one kind: joined by `||`, the proof of three goals did not close
-    let keeps_row = service <= 2;
-    if keeps_row {
-        return Some(low);
-    }
-    if beyond == 0 {
+    if service <= 2 || beyond == 0 {
         return Some(low);
     }
     let high = row_limit(row + 1, service)?;
