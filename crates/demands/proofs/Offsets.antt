@@ -12,7 +12,8 @@ use Rattle.sheet.specs.declared.fields.GoalCode.{GoalCode}
 use Rattle.sheet.specs.declared.fields.GoalCode.TheVariants.{ForEconomy, ForLoss, ForSurface}
 use Rattle.sheet.specs.declared.fields.Sheet.{Sheet}
 use Rattle.sheet.specs.Sheet.{uses_economy, uses_aim, decoded}
-use Rattle.sheet.specs.Fields.{Field, economy_fields, aim_fields, fields}
+use Rattle.sheet.specs.declared.faults.Field.{Field}
+use Rattle.sheet.specs.Fields.{economy_fields, aim_fields, fields}
 use Rattle.demands.specs.Offsets.{stands_at, Offsets}
 
 module _ (b : List ℕ) where

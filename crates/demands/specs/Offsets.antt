@@ -5,7 +5,8 @@ use mathlib.Core.List.{List, [], ◌∷◌, map, Memᴰ}
 use Rattle.big_endian.specs.Bytes.{big_endian}
 use Rattle.temperatures.specs.Temperature.{decoded as signed}
 use Rattle.sheet.specs.Sheet.{decoded}
-use Rattle.sheet.specs.Fields.{Field, fields}
+use Rattle.sheet.specs.declared.faults.Field.{Field}
+use Rattle.sheet.specs.Fields.{fields}
 
 -- what stands at an offset: the codes have one byte, every other field two; t and ta are signed
 abbrev pub stands_at : List ℕ → ℕ → ℕ

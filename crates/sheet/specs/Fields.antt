@@ -6,28 +6,21 @@ use Rattle.refusals.specs.Numbers.{number_of}
 use Rattle.refusals.specs.Range.{outside}
 use Rattle.temperatures.specs.Temperature.{zero_degrees}
 use Rattle.heat_flow.specs.HeatFlow.{least_temperature}
+use Rattle.sheet.specs.declared.faults.Field.{Field}
 use Rattle.sheet.specs.declared.fields.Sheet.{Sheet}
 use Rattle.sheet.specs.Sheet.{uses_economy, uses_aim}
 
--- a field: its offset, its value and its range, and the number of the refusal where it is outside
-pub record Field : Type 0 where
-  pub refusal : ℕ
-  pub offset : ℕ
-  pub value : ℕ
-  pub least : ℕ
-  pub most : ℕ
-
 -- "12: goal or service code unknown."
 abbrev pub coded : ℕ → ℕ → ℕ → ℕ → Field
-coded o x l m = record { refusal = number_of UnknownCode; offset = o; value = x; least = l; most = m }
+coded o x l m = record { refusal = UnknownCode; offset = o; value = x; least = l; most = m }
 
 -- "13: a field outside its range."
 abbrev pub ranged : ℕ → ℕ → ℕ → ℕ → Field
-ranged o x l m = record { refusal = number_of OutOfRange; offset = o; value = x; least = l; most = m }
+ranged o x l m = record { refusal = OutOfRange; offset = o; value = x; least = l; most = m }
 
 -- "14: an unused field not zero, or goal 1 with an aim not zero."; goal 5 is like goal 1 here
 abbrev pub unused : ℕ → ℕ → Field
-unused o x = record { refusal = number_of NotZero; offset = o; value = x; least = 0; most = 0 }
+unused o x = record { refusal = NotZero; offset = o; value = x; least = 0; most = 0 }
 
 -- "1 economy, 2 loss, 3 surface", "1 year-round, 2 seasonal", "service 3 (year-round) or 4 (seasonal)" (02, N2), "Goal 4 is cold surface",
 -- "goal 5 is cold economy" (02, N4)
@@ -66,4 +59,4 @@ fields s = codes s ++ line_fields s ++ economy_fields (uses_economy s.goal) s ++
 
 -- the first field of a list that is outside its range, of those of the refusal n, by its offset
 unfoldable pub first_fault : ℕ → List Field → Option ℕ
-first_fault n fs = option_map (λ (f : Field). f.offset) (find (λ (f : Field). eqb n f.refusal && outside f.value f.least f.most) fs)
+first_fault n fs = option_map (λ (f : Field). f.offset) (find (λ (f : Field). eqb n (number_of f.refusal) && outside f.value f.least f.most) fs)
