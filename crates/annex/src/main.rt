@@ -8,6 +8,7 @@ ghost use Rattle.annex.specs.Page.{line, entry_line, limits_line, page};
 
 use arrayvec::ArrayVec;
 use fractions::Bounds;
+use std::io;
 use streams::{complain, write};
 use text::Sink;
 
@@ -63,7 +64,7 @@ fn put_page<const N: usize>(text: &mut ArrayVec<u8, N>)
 fn main(rt: HostRuntime) {
     let mut text: ArrayVec<u8, 131072> = ArrayVec::new();
     put_page(&mut text);
-    if let Err(failure) = write(&rt, text.as_slice()) {
+    if let Err(failure) = write(&mut io::writer(&rt), text.as_slice()) {
         complain(&rt, "annex", &failure);
     }
 }

@@ -1,8 +1,10 @@
 // Lists the sheets that stand one after another on standard input: a header, and a line for each.
 #![tactic(auto)]
 
-ghost use Rattle.std.specs.Prelude.{◌≡◌, if◌then◌else◌, ◌-◌, ◌*◌, ◌%◌, ◌≤◌, length};
+ghost use Rattle.std.specs.Prelude.{◌≡◌, if◌then◌else◌, ◌-◌, ◌*◌, ◌%◌, ◌≤◌, length, IfOk, OnOk};
+ghost use Rattle.std.specs.Io.KnownBytes.{Appends};
 ghost use Rattle.listing_text.specs.Listing.{lines_of};
+ghost use Rattle.listing.specs.Block.{ListsBlock, ListsAll};
 
 use arrayvec::ArrayVec;
 use std::io;
@@ -21,45 +23,55 @@ fn listed_length(length: usize, failed: bool) -> usize
 
 // Writes the lines of a block of at most 512 sheets, which it puts in the text first. The functions that list take the stream, the block and
 // the text one by one: a struct of the three would be no plainer, since nothing else takes it and each borrow is of one part.
-fn list<const N: usize>(rt: &impl Print, sheets: &[u8], text: &mut ArrayVec<u8, N>) -> Result<(), Failure>
+fn list<W: io::Write, const N: usize>(
+    out: &mut W,
+    sheets: &[u8],
+    text: &mut ArrayVec<u8, N>,
+) -> Result<(), Failure>
     requires { (length sheets.now ≤ 12_288) × (108 * 512 ≤ N) }
-    ensures { text.new.items ≡ lines_of sheets.now }
+    ensures lines { text.new.items ≡ lines_of sheets.now }
+    ensures written { OnOk result (Appends (W.contents out.old) (W.contents out.new) (lines_of sheets.now)) }
 {
     text.clear();
     listing_text::put_lines(text, sheets);
-    write(rt, text.as_slice())
+    write(out, text.as_slice())
 }
 
-// Reads a block and lists it, and returns whether more may follow.
-fn list_block<R: io::Read, const N: usize>(
-    rt: &impl Print,
+// Reads a block and lists it, and returns whether more may follow: only where the block was filled.
+fn list_block<W: io::Write, R: io::Read, const N: usize>(
+    out: &mut W,
     reader: &mut R,
     block: &mut [u8],
     text: &mut ArrayVec<u8, N>,
 ) -> Result<bool, Failure>
     requires { (length block.old ≤ 12_288) × (108 * 512 ≤ N) }
+    ensures size { length block.new ≡ length block.old }
+    ensures listed { IfOk result
+        (ListsBlock (R.remaining reader.old) (R.remaining reader.new) (W.contents out.old) (W.contents out.new) (length block.old)) }
 {
     let (length, read) = fill(reader, block);
     let listed = listed_length(length, read.is_err());
-    list(rt, &block[..listed], text)?;
+    list(out, &block[..listed], text)?;
     read?;
     Ok(length == block.len())
 }
 
 // Lists the header, and block after block. A proved loop has to end, so it counts its turns, up to a number that no run reaches.
-fn list_all<R: io::Read, const N: usize>(
-    rt: &impl Print,
+#[tactic(auto, using(crate::proofs::Blocks::blocks))]
+fn list_all<W: io::Write, R: io::Read, const N: usize>(
+    out: &mut W,
     reader: &mut R,
     block: &mut [u8],
     text: &mut ArrayVec<u8, N>,
 ) -> Result<(), Failure>
     requires { (length block.old ≤ 12_288) × (108 * 512 ≤ N) }
+    ensures { OnOk result (ListsAll (R.remaining reader.old) (W.contents out.old) (W.contents out.new) (length block.old)) }
 {
     text.clear();
     listing_text::put_header(text);
-    write(rt, text.as_slice())?;
+    write(out, text.as_slice())?;
     for _ in 0..u64::MAX {
-        if !list_block(rt, reader, block, text)? {
+        if !list_block(out, reader, block, text)? {
             break;
         }
     }
@@ -70,7 +82,7 @@ fn list_all<R: io::Read, const N: usize>(
 fn main(rt: HostRuntime) {
     let mut block = [0; 512 * 24];
     let mut text: ArrayVec<u8, 65536> = ArrayVec::new();
-    if let Err(failure) = list_all(&rt, &mut rt.stdin(), &mut block, &mut text) {
+    if let Err(failure) = list_all(&mut io::writer(&rt), &mut rt.stdin(), &mut block, &mut text) {
         complain(&rt, "listing", &failure);
     }
 }

@@ -2,7 +2,7 @@
 #![tactic(auto)]
 
 ghost use Rattle.std.specs.Prelude.{◌≡◌, ◌+◌, ◌<◌, ◌≤◌, length, take, drop, IfOk, IfErr, OnOk, OnErr};
-ghost use Rattle.std.specs.Io.KnownBytes.{Consumes, Keeps, IsAtEnd};
+ghost use Rattle.std.specs.Io.KnownBytes.{Appends, Consumes, Keeps, IsAtEnd};
 ghost use Rattle.streams.specs.declared.Failure.TheVariants.{Read, Write};
 
 use std::{fmt, io};
@@ -33,6 +33,7 @@ pub fn fill<R: io::Read>(reader: &mut R, block: &mut [u8]) -> (usize, Result<(),
     ensures bytes { Consumes (R.remaining reader.old) (R.remaining reader.new) (take result.0 block.new) }
     ensures end { OnOk result.1 (result.0 < length block.new → IsAtEnd (R.remaining reader.new)) }
     ensures err { IfErr result.1 (λ failure. failure ≡ Read) }
+    ensures room { OnErr result.1 (result.0 < length block.new) }
 {
     let mut length = 0;
     while length < block.len() {
@@ -59,11 +60,12 @@ fn read_from<R: io::Read>(reader: &mut R, block: &mut [u8], offset: usize) -> io
     reader.read(&mut block[offset..])
 }
 
-// Writes the bytes on standard output.
-pub fn write(rt: &impl Print, bytes: &[u8]) -> Result<(), Failure>
-    ensures { IfErr result (λ failure. failure ≡ Write) }
+// Writes the bytes.
+pub fn write<W: io::Write>(out: &mut W, bytes: &[u8]) -> Result<(), Failure>
+    ensures ok { OnOk result (Appends (W.contents out.old) (W.contents out.new) bytes.now) }
+    ensures err { IfErr result (λ failure. failure ≡ Write) }
 {
-    rt.write_all(bytes).map_err(|_| Failure::Write)
+    out.write_all(bytes).map_err(|_| Failure::Write)
 }
 
 // Says on standard error why a program stops, if that can be written. No contract: nothing rests on it.

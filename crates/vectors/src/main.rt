@@ -2,16 +2,23 @@
 // bytes), and what is expected: the word refused and a number, or the eight bytes of an answer in hexadecimal.
 #![tactic(auto)]
 
+ghost use Rattle.std.specs.Prelude.{OnOk};
+ghost use Rattle.std.specs.Io.KnownBytes.{Appends, IsAtEnd};
+ghost use Rattle.listing_text.specs.Line.{line_of};
+
 use arrayvec::ArrayVec;
 use hexadecimal::decode;
 use outcome::work_out;
+use std::io;
 use streams::{Failure, complain, fill, write};
 
 // Writes the sheet's line of the listing.
-fn list(rt: &impl Print, sheet: &[u8]) -> Result<(), Failure> {
+fn list<W: io::Write>(out: &mut W, sheet: &[u8]) -> Result<(), Failure>
+    ensures { OnOk result (Appends (W.contents out.old) (W.contents out.new) (line_of sheet.now)) }
+{
     let mut line: ArrayVec<u8, 128> = ArrayVec::new();
     listing_text::put_line(&mut line, sheet);
-    write(rt, line.as_slice())
+    write(out, line.as_slice())
 }
 
 // Is the text hexadecimal, and are these its bytes?
@@ -32,25 +39,25 @@ fn comes_to(sheet: &[u8], expected: &[u8]) -> bool {
 }
 
 // Says whether the sheet comes to what is expected, and lists it. Returns whether it does.
-fn compare(rt: &impl Print, sheet: &[u8], expected: &[u8]) -> Result<bool, Failure> {
+fn compare(out: &mut impl io::Write, sheet: &[u8], expected: &[u8]) -> Result<bool, Failure> {
     let passed = comes_to(sheet, expected);
     if passed {
-        write(rt, b" ok: ")?;
+        write(out, b" ok: ")?;
     } else {
-        write(rt, b" FAILED, expected ")?;
-        write(rt, expected)?;
-        write(rt, b": ")?;
+        write(out, b" FAILED, expected ")?;
+        write(out, expected)?;
+        write(out, b": ")?;
     }
-    list(rt, sheet)?;
+    list(out, sheet)?;
     Ok(passed)
 }
 
 // Says that a part of the vector is not hexadecimal.
-fn fail(rt: &impl Print, part: &[u8]) -> Result<bool, Failure> {
-    write(rt, b" FAILED: the ")?;
-    write(rt, part)?;
+fn fail(out: &mut impl io::Write, part: &[u8]) -> Result<bool, Failure> {
+    write(out, b" FAILED: the ")?;
+    write(out, part)?;
     write(
-        rt,
+        out,
         b" is not hexadecimal, two digits a byte and 64 bytes at most\n",
     )?;
     Ok(false)
@@ -67,24 +74,24 @@ fn readable(expected: &[u8]) -> bool {
 }
 
 // Runs the sheet of a vector, and returns whether it passed.
-fn run_sheet(rt: &impl Print, text: &[u8], expected: &[u8]) -> Result<bool, Failure> {
+fn run_sheet(out: &mut impl io::Write, text: &[u8], expected: &[u8]) -> Result<bool, Failure> {
     let Some(sheet) = decode(digits(text)) else {
-        return fail(rt, b"sheet");
+        return fail(out, b"sheet");
     };
     if !readable(expected) {
-        return fail(rt, b"answer");
+        return fail(out, b"answer");
     }
-    compare(rt, sheet.as_slice(), expected)
+    compare(out, sheet.as_slice(), expected)
 }
 
 // Runs the vector of a line: says whether it passed, and lists its sheet.
-fn run_vector(rt: &impl Print, line: &[u8]) -> Result<bool, Failure> {
+fn run_vector(out: &mut impl io::Write, line: &[u8]) -> Result<bool, Failure> {
     let mut parts = line.splitn(3, |byte| *byte == b' ');
     let name = parts.next().unwrap_or(&[]);
     let sheet = parts.next().unwrap_or(&[]);
     let expected = parts.next().unwrap_or(&[]);
-    write(rt, name)?;
-    run_sheet(rt, sheet, expected)
+    write(out, name)?;
+    run_sheet(out, sheet, expected)
 }
 
 // Says how many vectors there were and how many of them failed.
@@ -96,9 +103,10 @@ fn sum_up(rt: &impl Print, count: u64, failed: u64) -> Result<(), Failure> {
 fn run(rt: &HostRuntime, vectors: &[u8]) -> Result<(), Failure> {
     let mut count = 0;
     let mut failed = 0;
+    let mut out = io::writer(rt);
     for line in vectors.split_inclusive(|byte| *byte == b'\n') {
         let vector = line.strip_suffix(b"\n").unwrap_or(line);
-        if !run_vector(rt, vector)? {
+        if !run_vector(&mut out, vector)? {
             failed += 1;
         }
         count += 1;
@@ -106,14 +114,25 @@ fn run(rt: &HostRuntime, vectors: &[u8]) -> Result<(), Failure> {
     sum_up(rt, count, failed)
 }
 
+// Refuses input that has not ended. Where it has, all of it was read: a read that failed before would have left it.
+fn expect_end<R: io::Read>(reader: &mut R) -> Result<(), Failure>
+    ensures { OnOk result (IsAtEnd (R.remaining reader.new)) }
+{
+    match reader.read(&mut [0]) {
+        Ok(0) => Ok(()),
+        _ => Err(Failure::Read),
+    }
+}
+
 // The room is an array and a length beside it, since a read fills lent bytes.
 fn main(rt: HostRuntime) {
     let mut room = [0; 262144];
-    let (length, read) = fill(&mut rt.stdin(), &mut room);
+    let mut input = rt.stdin();
+    let (length, _) = fill(&mut input, &mut room);
     if length == room.len() {
         return complain(&rt, "vectors", &"more than 262,143 bytes");
     }
-    if let Err(failure) = read.and_then(|_| run(&rt, &room[..length])) {
+    if let Err(failure) = expect_end(&mut input).and_then(|_| run(&rt, &room[..length])) {
         complain(&rt, "vectors", &failure);
     }
 }
