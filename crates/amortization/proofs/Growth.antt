@@ -1,15 +1,13 @@
 -- Growth figures.
 -- Assumes nothing.
-use mathlib.Core.Path.{◌≡◌}
-use Prim.Native.Nat.{ℕ, zero, suc, ◌+◌, ◌-◌, ◌*◌, ◌^◌, ◌≤◌, ◌<◌}
-use native.Mathlib.Nat.{le_refl, le_trans, not-suc-le-zero, mul-le-mul, mul-le-mul_right, mul-suc, pow-zero, pow-suc}
-use native.Mathlib.Numerals.{sub-one}
+use Prim.Native.Nat.{ℕ, zero, suc, ◌+◌, ◌*◌, ◌^◌, ◌≤◌, ◌<◌}
+use native.Mathlib.Nat.{le_refl, le_trans, mul-le-mul, mul-le-mul_right, mul-suc, pow-zero, pow-suc}
 use native.Mathlib.Omega.{arith}
 use borrow.Enum.Match.{each_below}
 use Rattle.fractions.specs.Fraction.{Fraction, ◌over◌, ◌≼◌}
 use Rattle.fractions.specs.Rounding.{floor, ceiling}
 use Rattle.fractions.proofs.Rounding.{floor_below, ceiling_above, floor_mono, ceiling_mono}
-use Rattle.amortization.specs.Growth.{principal, year, growth, rounded_growth, exact_growth}
+use Rattle.amortization.specs.Growth.{principal, growth, rounded_growth, exact_growth}
 
 -- "once rounded down and once up": the exact growth lies between the two
 pub growth_enclosed : (i n : ℕ) → (rounded_growth floor i n ≼ exact_growth i n) × (exact_growth i n ≼ rounded_growth ceiling i n)
@@ -56,8 +54,3 @@ at_lowest round least i (suc n) =
     let p : Fraction = (growth round i n * (10_000 + i)) over 10_000 in
     let factors = mul-le-mul_right (10_000 + i) (at_lowest round least i n) in
     le_trans (floor_mono ((growth floor i n * (10_000 + i)) over 10_000) p (omega arith) (omega arith) (omega arith)) (least p (omega arith))
-
-pub last_year : (round : Fraction → ℕ) (i n : ℕ) → 0 < n → growth round i n ≡ year round i (growth round i (n - 1))
-unfolding growth
-last_year round i zero lt = absurd (not-suc-le-zero lt)
-last_year round i (suc n) lt = rw (sub-one (suc n))

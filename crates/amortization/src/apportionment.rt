@@ -28,6 +28,7 @@ pub fn share(rate: u64, years: u64) -> Result<u16, Refusal>
 }
 
 // The share by a growth that is rounded each year.
+#[tactic(auto, using(crate::proofs::Enclosure::grown))]
 fn share_by<R: Rounding>(rate: u64, years: u64) -> u64
     requires { InRange rate years }
     ensures { result ≡ share_by R.rounded rate years }

@@ -1,5 +1,5 @@
 // Growth by compound interest.
-ghost use Rattle.std.specs.Prelude.{◌≡◌, ℕ, ◌≤◌, ◌<◌};
+ghost use Rattle.std.specs.Prelude.{◌≡◌, ℕ, ◌+◌, ◌*◌, ◌≤◌, ◌<◌};
 ghost use Rattle.fractions.specs.Fraction.{Fraction, ◌over◌};
 ghost use Rattle.fractions.specs.Rounding.{floor, ceiling};
 ghost use Rattle.fractions.proofs.Rounding.{floor_ceiling};
@@ -54,10 +54,12 @@ impl Rounding for Up {
 
 // The growth of the principal with so many years left to compound: 01, "Matching forms to places", names the form, a recursion on the years
 // left.
+#[tactic(auto, unfolding(crate::specs::Growth::growth))]
 pub(crate) fn growth<R: Rounding>(rate: u64, left: u64) -> u64
     requires rate_bound { rate ≤ 3_000 }
     requires left_bound { left ≤ 30 }
-    ensures { result ≡ growth_growth R.rounded rate left }
+    ensures value { result ≡ growth_growth R.rounded rate left }
+    ensures fits { result * (10_000 + rate) < 1_000_000_000_000_000_000 }
 {
     let more = 0 < left;
     if more {
