@@ -3,6 +3,7 @@
 use Rattle.std.proofs.Common.{◌≡◌, ℕ, ◌%◌, ◌<◌, ◌≤◌, Bool, true, false, cond, List, [], ◌∷◌, ◌++◌, Option, Some, None, length, get_or, leb, refl, arith}
 use Rattle.std.specs.Option.{option_and_then}
 use borrow.Author.Tests.{le-leb, lt-leb}
+use Rattle.std.proofs.lemmas.Grind.{common_steps}
 use Rattle.hexadecimal.specs.Hex.{digit_of, byte_of, pairs, bytes_of}
 
 nothing : (next : ℕ → Option (List ℕ)) (o : Option ℕ) → ((b : ℕ) → next b ≡ None) → option_and_then next o ≡ None
@@ -38,17 +39,13 @@ pairs-end bytes [] none = refl
 pairs-end bytes (x ∷ rest) none = absurd (omega arith)
 
 -- the next two digits
-step : (bytes digits rest : List ℕ) → length digits ≡ 2 →
+pub pairs-step : (bytes digits rest : List ℕ) → length digits ≡ 2 →
     pairs bytes (digits ++ rest) ≡ option_and_then (λ b. pairs (bytes ++ b ∷ []) rest) (byte_of (digit_of (get_or digits 0 0)) (digit_of (get_or digits 1 0)))
 unfolding pairs
-step bytes [] rest two = absurd (omega arith)
-step bytes (high ∷ []) rest two = absurd (omega arith)
-step bytes (high ∷ low ∷ []) rest two = refl
-step bytes (high ∷ low ∷ x ∷ more) rest two = absurd (omega arith)
-
-pub pairs-step : {all : List ℕ} {o : Option ℕ} (bytes digits rest : List ℕ) → all ≡ digits ++ rest → length digits ≡ 2 →
-    o ≡ byte_of (digit_of (get_or digits 0 0)) (digit_of (get_or digits 1 0)) → pairs bytes all ≡ option_and_then (λ b. pairs (bytes ++ b ∷ []) rest) o
-pairs-step bytes digits rest parts two is = rw (parts, is) (step bytes digits rest two)
+pairs-step bytes [] rest two = absurd (omega arith)
+pairs-step bytes (high ∷ []) rest two = absurd (omega arith)
+pairs-step bytes (high ∷ low ∷ []) rest two = refl
+pairs-step bytes (high ∷ low ∷ x ∷ more) rest two = absurd (omega arith)
 
 -- what a search takes for the bytes of a text
-pub ruleset laws = (bytes_of-odd, bytes_of-long, bytes_of-short, pairs-end, pairs-step)
+pub ruleset laws = (common_steps, bytes_of-odd, bytes_of-long, bytes_of-short, pairs-end, pairs-step)
