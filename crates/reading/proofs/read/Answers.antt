@@ -22,8 +22,7 @@ returns-in_err-stored c =
 pub returns : goal.returns
 returns c =
     let same = c.in_ok-book.ensures.same in
-    let told = rw (same.0, same.1, c.standard.ensures) at c.in_ok-stored.ensures.response in
-    let there = rw (same.0, same.1, c.standard.ensures) at c.in_ok-stored.ensures.stored in
+    let told = rw (same.0, same.1, c.standard.ensures) at c.in_ok-stored.ensures in
     let sheet_is = c.copy_from_slice.ensures.after in
     let answer_is = c.copy_from_slice-2.ensures.after in
-    rw (← told) (record { response = rw (sheet_is, answer_is) refl; sheet_after = sheet_is ∙ there.0; answer_after = answer_is ∙ there.1 })
+    rw (← told.response) (record { response = rw (sheet_is, answer_is) refl; sheet_after = sheet_is ∙ told.stored.0; answer_after = answer_is ∙ told.stored.1 })
