@@ -1,14 +1,8 @@
 -- The law of a root in two parts.
-use Rattle.std.proofs.Common.{◌*◌, ◌%◌, ◌^◌, ◌∙◌, arith}
-use native.Mathlib.Nat.{mod-lt}
+use Rattle.std.proofs.Common.{◌∙◌, arith}
 use Rattle.fractions.proofs.Sides.{both_of}
-use Rattle.roots.proofs.Parts.{first_part, both_parts, product_le}
+use Rattle.roots.proofs.Parts.{first_part, both_parts}
 use Rattle.roots.proofs.root.Goals as goal
-
-pub overflow_mul-part : goal.overflow_mul-part
-overflow_mul-part c =
-    let a = c.args in
-    omega (arith, mod-lt a.n c.requires.3, product_le {x = a.k * a.k} {y = a.n % a.d} (2 ^ 12 * 2 ^ 12) (2 ^ 30) (product_le (2 ^ 12) (2 ^ 12) (omega arith) (omega arith)) (omega (arith, mod-lt a.n c.requires.3)))
 
 pub increment-v-requires : goal.increment-v-requires
 increment-v-requires c =
