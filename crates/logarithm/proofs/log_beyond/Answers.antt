@@ -5,7 +5,7 @@ use Rattle.logarithm.proofs.Steps.{joined}
 use Rattle.logarithm.proofs.log_beyond.Goals as goal
 
 pub sub-requires : goal.sub-requires
-sub-requires c = let parts = joined c.requires.1 c.requires.2 c.requires.3 c.requires.0 refl c.log_from_10mm.ensures in (omega arith, omega arith)
+sub-requires c = omega (arith, joined c.requires.1 c.requires.2 c.requires.3 c.requires.0 refl c.log_from_10mm.ensures)
 
 pub returns : goal.returns
 returns c =

@@ -6,10 +6,10 @@ use Rattle.logarithm.proofs.Steps.{joined}
 use Rattle.logarithm.proofs.log_from_10mm.Goals as goal
 
 pub sub-requires : goal.sub-requires
-sub-requires c = let down = joined (omega arith) (omega arith) (omega arith) refl c.log_by_steps.ensures c.entry-start.ensures in (omega arith, omega arith)
+sub-requires c = omega (arith, joined (omega arith) (omega arith) (omega arith) refl c.log_by_steps.ensures c.entry-start.ensures)
 
 pub add-requires : goal.add-requires
-add-requires c = let up = joined (omega arith) (omega arith) (omega arith) c.entry-start.ensures c.log_by_steps-else-e-near.ensures refl in (omega arith, omega arith)
+add-requires c = omega (arith, joined (omega arith) (omega arith) (omega arith) c.entry-start.ensures c.log_by_steps-else-e-near.ensures refl)
 
 pub returns-then-e-near : goal.returns-then-e-near
 returns-then-e-near c =
