@@ -11,7 +11,13 @@ abbrev pub invariant-ladder : goal.invariant-ladder
 invariant-ladder l =
     let line = l.prepared.line.line in
     let first = first_not_insufficient (verdict_of line l.required) in
-    (l.likely ≤ rungs) × (l.low ≤ first) × (first ≤ l.high) × (l.high ≤ rungs) × (l.found ≡ cond (ltb l.high rungs) (Some (rung line l.high)) None)
+    record {
+      likely : l.likely ≤ rungs;
+      below : l.low ≤ first;
+      above : first ≤ l.high;
+      within : l.high ≤ rungs;
+      found : l.found ≡ cond (ltb l.high rungs) (Some (rung line l.high)) None;
+    }
 
 abbrev pub decreases-ladder : goal.decreases-ladder
 decreases-ladder l = l.high - l.low
