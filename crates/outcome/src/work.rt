@@ -21,6 +21,7 @@ use sheet::Sheet;
 use verdict::{Rung, judge, search};
 
 // Works out the sheet that these bytes are.
+#[tactic(auto, unfolding(refusals::specs::Response::respond))]
 pub fn work_out(bytes: &[u8]) -> Result<Answer, Refusal>
     ensures { response result ≡ response_to bytes.now }
 {

@@ -1,12 +1,9 @@
 -- With no case that holds the sheet is admitted.
 use Rattle.std.proofs.Common.{rules}
 use Rattle.refusals.specs.Cases.{NoneHolds}
-use Rattle.sheet.specs.Refusals.{value_cases}
 use Rattle.sheet.proofs.Admitted.{admitted}
 use Rattle.outcome.proofs.work.admit.Goals as goal
 
 pub of-requires : goal.of-requires
 unfolding NoneHolds
-of-requires c =
-    let none : NoneHolds (value_cases c.args.sheet) = search rules in
-    admitted c.args.sheet none
+of-requires c = admitted c.args.sheet (search rules)

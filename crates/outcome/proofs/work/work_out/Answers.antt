@@ -1,6 +1,6 @@
 -- Case 11, and then those of the decoded sheet.
 use Rattle.std.proofs.Common.{length, sym, ap, ◌∙◌, arith}
-use borrow.Author.Tests.{eq-eqb, ne_eqb}
+use borrow.Author.Tests.{eq-eqb}
 use Rattle.std.proofs.lemmas.Result.{err_from_is_err_and}
 use Rattle.refusals.specs.Cases.{NoneHolds, FirstHolds}
 use Rattle.refusals.specs.Numbers.{number_of}
@@ -13,10 +13,6 @@ use Rattle.sheet.specs.Search.{chosen}
 use Rattle.sheet.specs.Answer.{answer_of, answer}
 use Rattle.sheet.specs.Refusals.{value_cases, ladder_cases}
 use Rattle.outcome.proofs.work.work_out.Goals as goal
-
-pub returns-then-wrong : goal.returns-then-wrong
-unfolding respond
-returns-then-wrong c = rw (ne_eqb (length c.args.bytes.now) 24 (omega arith))
 
 pub returns-in_err-sheet : goal.returns-in_err-sheet
 unfolding respond
