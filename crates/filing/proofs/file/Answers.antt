@@ -15,9 +15,9 @@ use Rattle.book.proofs.Responses.{filing_sound, filing_room}
 use Rattle.book.proofs.SheetSize.{sheet_size}
 use Rattle.filing.proofs.file.Goals as goal
 
--- bytes that were examined by the standard layout
-sound : {layout : BookLayout} {bytes : List ℕ} (b : Book) → layout.plain ≡ standard → (b.layout ≡ layout) × (b.bytes.now ≡ bytes) → SoundBook standard bytes b.sizes
-sound b standard_is same = rw (← standard_is, ← same.0, ← same.1) b.sound
+-- a book that was examined in the standard layout is sound in it
+is_sound : {layout : BookLayout} {bytes : List ℕ} (b : Book) → layout.plain ≡ standard → (b.layout ≡ layout) × (b.bytes.now ≡ bytes) → SoundBook standard bytes b.sizes
+is_sound b standard_is same = rw (← standard_is, ← same.0, ← same.1) b.sound
 
 pub returns-in_err-sizes : goal.returns-in_err-sizes
 returns-in_err-sizes c =
@@ -28,12 +28,12 @@ returns-in_err-sizes c =
 pub returns-then-sizes : goal.returns-then-sizes
 unfolding respond
 returns-then-sizes c =
-    let sound = sound c.in_ok-sizes.field-0 c.standard-layout.ensures c.in_ok-sizes.ensures.same in
+    let sound = is_sound c.in_ok-sizes.field-0 c.standard-layout.ensures c.in_ok-sizes.ensures.same in
     rw (filing_sound sound c.args.sheet.now, eq-eqb _ _ c.if-sizes.true) (record { response = refl; book_after = refl })
 
 pub returns-in_err-answer : goal.returns-in_err-answer
 returns-in_err-answer c =
-    let sound = sound c.in_ok-sizes.field-0 c.standard-layout.ensures c.in_ok-sizes.ensures.same in
+    let sound = is_sound c.in_ok-sizes.field-0 c.standard-layout.ensures c.in_ok-sizes.ensures.same in
     let p = err_from_is_err_and c.from_residual-in_err-answer.result c.from_residual-in_err-answer.ensures.1 in
     rw (p.1, p.2, filing_room sound c.args.sheet.now c.if-sizes.false, ← c.in_err-answer.ensures) (record { response = refl; book_after = refl })
 
@@ -42,6 +42,6 @@ enter-requires-clause-fits c = (search rules, sheet_size c.args.sheet.now (sym c
 
 pub returns : goal.returns
 returns c =
-    let sound = sound c.in_ok-sizes.field-0 c.standard-layout.ensures c.in_ok-sizes.ensures.same in
+    let sound = is_sound c.in_ok-sizes.field-0 c.standard-layout.ensures c.in_ok-sizes.ensures.same in
     let same = (completed (cases c.args.sheet.now) (answer c.args.sheet.now) _ (sym c.in_ok-answer.ensures)).1 in
     rw (filing_room sound c.args.sheet.now c.if-sizes.false, ← c.in_ok-answer.ensures, same) (record { response = refl; book_after = rw c.standard-layout.ensures at c.enter.ensures })
