@@ -1,5 +1,5 @@
 // An answer or a refusal, as text.
-ghost use Rattle.std.specs.Prelude.{◌≡◌, ◌+◌, ◌≤◌, ◌++◌, length};
+ghost use Rattle.std.specs.Prelude.{◌≡◌, ◌+◌, ◌≤◌, length};
 ghost use Rattle.refusals.specs.Numbers.{number_of};
 ghost use Rattle.refusals.specs.Response.{refused};
 ghost use Rattle.answer_text.specs.Response.{checks_text, answer_text, response_text};

@@ -1,6 +1,6 @@
 // The words and figures of an answer. The codes are numbers, and no enums, since an answer is printed from its eight bytes, which may hold any
 // codes (01): an enum would need a variant for all others, and be no plainer.
-ghost use Rattle.std.specs.Prelude.{◌≡◌, ◌+◌, ◌≤◌, ◌++◌, length};
+ghost use Rattle.std.specs.Prelude.{◌≡◌, ◌+◌, ◌≤◌};
 ghost use Rattle.answer_text.specs.Response.{shape_word, check_word, tenths, degrees, spaced};
 
 use temperatures::Temperature;

@@ -1,5 +1,5 @@
 // The lines of sheets one after another.
-ghost use Rattle.std.specs.Prelude.{◌≡◌, ◌+◌, ◌*◌, ◌≤◌, ◌++◌, length};
+ghost use Rattle.std.specs.Prelude.{◌≡◌, ◌+◌, ◌*◌, ◌≤◌, length};
 ghost use Rattle.listing_text.specs.Listing.{header, chunks, lines_of};
 
 use crate::sheet_line::put_line;

@@ -1,5 +1,5 @@
 // A line of the listing.
-ghost use Rattle.std.specs.Prelude.{◌≡◌, ◌+◌, ◌≤◌, ◌++◌, length};
+ghost use Rattle.std.specs.Prelude.{◌≡◌, ◌+◌, ◌≤◌};
 ghost use Rattle.sheet.specs.Refusals.{response_to};
 ghost use Rattle.answer_text.specs.Response.{spaced, response_text};
 ghost use Rattle.listing_text.specs.Line.{line_number_text, line_of};

@@ -1,9 +1,9 @@
 // A text in lent bytes.
-ghost use Rattle.std.specs.Prelude.{◌≡◌, ℕ, ◌+◌, ◌≤◌, List, [], ◌++◌, length};
+ghost use Rattle.std.specs.Prelude.{◌≡◌, ◌+◌, length};
 ghost use Rattle.overlay.specs.Overlay.{overlay};
 ghost use Rattle.overlay.proofs.Overlay.{nothing, overlay_more};
 ghost use Rattle.overlay.proofs.Parts.{length_overlay};
-ghost use Rattle.std.proofs.Common.{refl, rules, add-zero, add_assoc, length-append};
+ghost use Rattle.std.proofs.Common.{refl, add-zero, add_assoc, length-append};
 
 use crate::sink::Sink;
 use overlay::put;

@@ -1,19 +1,19 @@
-// What pieces are put into.
+// What a text is put into, piece by piece.
 ghost use Rattle.std.specs.Prelude.{◌≡◌, ℕ, ◌+◌, ◌≤◌, List, [], ◌++◌, length};
 ghost use Rattle.text.specs.Text.{decimal, decimal_and};
 
-// Room for a text, which may start with bytes that are there already.
+// A room of bytes, filled from its start.
 pub trait Sink {
-    // it, with these bytes put at the end
+    // The sink with these bytes put where it is filled up to.
     ghost with_text: { Self → List ℕ → Self };
 
-    // how many bytes of the room are filled
+    // How many bytes of the room are filled.
     ghost filled: { Self → ℕ };
 
-    // how many bytes the room has in all
+    // How many bytes the room has in all.
     ghost room: { Self → ℕ };
 
-    // Puts a piece at the end.
+    // Puts a piece.
     fn put(&mut self, piece: &[u8])
         requires { filled self.old + length piece.now ≤ room self.old }
         ensures { self.new ≡ with_text self.old piece.now };
