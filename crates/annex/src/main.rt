@@ -10,7 +10,7 @@ use arrayvec::ArrayVec;
 use fractions::Bounds;
 use std::io;
 use streams::{complain, write};
-use text::Sink;
+use text::TextSink;
 
 // Puts the line of a whole millimetre.
 fn put_line<const N: usize>(text: &mut ArrayVec<u8, N>, mm: u64, figures: Bounds)

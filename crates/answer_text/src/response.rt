@@ -8,10 +8,10 @@ use crate::words::{put_check, put_degrees, put_shape};
 use big_endian::unsigned;
 use refusals::Refusal;
 use temperatures::Temperature;
-use text::Sink;
+use text::TextSink;
 
 // Puts the word refused and the refusal's number.
-pub fn put_refusal<S: Sink>(text: &mut S, why: Refusal)
+pub fn put_refusal<S: TextSink>(text: &mut S, why: Refusal)
     requires { S.filled text.old + 28 ≤ S.room text.old }
     ensures written { text.new ≡ S.with_text text.old (response_text (refused (number_of why))) }
     ensures upper_bound { S.filled text.new ≤ S.filled text.old + 28 }
@@ -21,7 +21,7 @@ pub fn put_refusal<S: Sink>(text: &mut S, why: Refusal)
 }
 
 // Puts the eight bytes of an answer in words and figures.
-pub fn put_answer<S: Sink>(text: &mut S, answer: &[u8])
+pub fn put_answer<S: TextSink>(text: &mut S, answer: &[u8])
     requires { (length answer.now ≡ 8) × (S.filled text.old + 86 ≤ S.room text.old) }
     ensures written { text.new ≡ S.with_text text.old (answer_text answer.now) }
     ensures upper_bound { S.filled text.new ≤ S.filled text.old + 86 }
@@ -32,7 +32,7 @@ pub fn put_answer<S: Sink>(text: &mut S, answer: &[u8])
 }
 
 // The two checks of an answer, and its surface bound.
-fn put_checks<S: Sink>(text: &mut S, answer: &[u8])
+fn put_checks<S: TextSink>(text: &mut S, answer: &[u8])
     requires { (length answer.now ≡ 8) × (S.filled text.old + 56 ≤ S.room text.old) }
     ensures written { text.new ≡ S.with_text text.old (checks_text answer.now) }
     ensures upper_bound { S.filled text.new ≤ S.filled text.old + 56 }

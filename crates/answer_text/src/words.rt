@@ -4,10 +4,10 @@ ghost use Rattle.std.specs.Prelude.{◌≡◌, ◌+◌, ◌≤◌};
 ghost use Rattle.answer_text.specs.Response.{shape_word, check_word, tenths, degrees, spaced};
 
 use temperatures::Temperature;
-use text::Sink;
+use text::TextSink;
 
 // The word for a shape, and a space.
-pub(crate) fn put_shape<S: Sink>(text: &mut S, code: u8)
+pub(crate) fn put_shape<S: TextSink>(text: &mut S, code: u8)
     requires { S.filled text.old + 9 ≤ S.room text.old }
     ensures written { text.new ≡ S.with_text text.old (spaced (shape_word code)) }
     ensures upper_bound { S.filled text.new ≤ S.filled text.old + 9 }
@@ -19,7 +19,7 @@ pub(crate) fn put_shape<S: Sink>(text: &mut S, code: u8)
 }
 
 // The word for a check, and a space.
-pub(crate) fn put_check<S: Sink>(text: &mut S, code: u8)
+pub(crate) fn put_check<S: TextSink>(text: &mut S, code: u8)
     requires { S.filled text.old + 7 ≤ S.room text.old }
     ensures written { text.new ≡ S.with_text text.old (spaced (check_word code)) }
     ensures upper_bound { S.filled text.new ≤ S.filled text.old + 7 }
@@ -33,7 +33,7 @@ pub(crate) fn put_check<S: Sink>(text: &mut S, code: u8)
 }
 
 // Tenths as a decimal number.
-fn put_tenths<S: Sink>(text: &mut S, n: u64)
+fn put_tenths<S: TextSink>(text: &mut S, n: u64)
     requires { S.filled text.old + 41 ≤ S.room text.old }
     ensures written { text.new ≡ S.with_text text.old (tenths n) }
     ensures upper_bound { S.filled text.new ≤ S.filled text.old + 41 }
@@ -44,7 +44,7 @@ fn put_tenths<S: Sink>(text: &mut S, n: u64)
 }
 
 // A temperature in degrees.
-pub(crate) fn put_degrees<S: Sink>(text: &mut S, t: Temperature)
+pub(crate) fn put_degrees<S: TextSink>(text: &mut S, t: Temperature)
     requires { S.filled text.old + 42 ≤ S.room text.old }
     ensures written { text.new ≡ S.with_text text.old (degrees t) }
     ensures upper_bound { S.filled text.new ≤ S.filled text.old + 42 }

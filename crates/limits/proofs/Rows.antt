@@ -72,7 +72,7 @@ limit_at service n x =
     let low = limit_of service (nth n) in
     cond (leb service 2 || eqb x 0) low (interpolated low (limit_of service (nth (suc n))) 500 x)
 
-pub neither : (b : Bool) → cond {A = ℕ} b 0 0 ≡ 0
+neither : (b : Bool) → cond {A = ℕ} b 0 0 ≡ 0
 neither true = refl
 neither false = refl
 

@@ -12,6 +12,6 @@ pub record ListsBlock (left rest held written : Option (List ℕ)) (size : ℕ) 
   pub full : more ≡ true → length sheets ≡ size
   pub end : more ≡ false → IsAtEnd rest
 
--- the listing of all that was left is written, by blocks of 512 sheets; no run reads 2^64 bytes
+-- with a block of 512 sheets, which is what `main` has, the listing of all that was left is written; no run reads 2^64 bytes
 unfoldable pub ListsAll : (left held written : Option (List ℕ)) (size : ℕ) → Type 0
 ListsAll left held written size = size ≡ 512 * 24 → IfSome left (λ input. length input < 2 ^ 64 → Appends held written (listing input))

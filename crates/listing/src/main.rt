@@ -37,7 +37,7 @@ fn list<W: io::Write, const N: usize>(
     write(out, text.as_slice())
 }
 
-// Reads a block and lists it, and returns whether more may follow: only where the block was filled.
+// Reads a block and lists it, and returns whether more may follow, which is so only where the block was filled.
 fn list_block<W: io::Write, R: io::Read, const N: usize>(
     out: &mut W,
     reader: &mut R,

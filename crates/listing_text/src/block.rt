@@ -3,10 +3,10 @@ ghost use Rattle.std.specs.Prelude.{◌≡◌, ◌+◌, ◌*◌, ◌≤◌, leng
 ghost use Rattle.listing_text.specs.Listing.{header, chunks, lines_of};
 
 use crate::sheet_line::put_line;
-use text::Sink;
+use text::TextSink;
 
 // Puts the header.
-pub fn put_header<S: Sink>(text: &mut S)
+pub fn put_header<S: TextSink>(text: &mut S)
     requires { S.filled text.old + length header ≤ S.room text.old }
     ensures { text.new ≡ S.with_text text.old header }
 {
@@ -14,7 +14,7 @@ pub fn put_header<S: Sink>(text: &mut S)
 }
 
 // Puts the lines of all sheets. What follows the last whole sheet has a line of its own.
-pub fn put_lines<S: Sink>(text: &mut S, sheets: &[u8])
+pub fn put_lines<S: TextSink>(text: &mut S, sheets: &[u8])
     requires { S.filled text.old + 108 * chunks sheets.now ≤ S.room text.old }
     ensures written { text.new ≡ S.with_text text.old (lines_of sheets.now) }
     ensures upper_bound { S.filled text.new ≤ S.filled text.old + 108 * chunks sheets.now }

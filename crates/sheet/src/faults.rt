@@ -2,14 +2,14 @@
 ghost use Rattle.std.specs.Prelude.{◌≡◌, [], ◌∷◌, ◌++◌, if◌then◌else◌};
 ghost use Rattle.refusals.specs.Numbers.{number_of};
 ghost use Rattle.sheet.specs.Sheet.{uses_economy, uses_aim, surface_aim};
-ghost use Rattle.sheet.specs.Fields.{coded, ranged, unused, used_if, codes, line_fields, economy_fields, fields, first_fault};
+ghost use Rattle.sheet.specs.Fields.{unused, used_if, codes, line_fields, economy_fields, fields, first_fault};
 ghost use Rattle.sheet.specs.Refusals.{aim_refused};
 
 use crate::{GoalCode, Sheet};
 use refusals::{Refusal, outside};
 use temperatures::Temperature;
 
-// A field: its offset, its value and its range, and the refusal where it is outside.
+// A field: its offset, its value and its range, and the refusal that a value outside it brings.
 #[derive(Clone, Copy)]
 pub struct Field {
     pub refusal: Refusal,
@@ -19,58 +19,34 @@ pub struct Field {
     pub most: u64,
 }
 
-// A code.
-fn coded(offset: u64, value: u64, least: u64, most: u64) -> Field
-    ensures { result ≡ coded offset value least most }
-{
-    Field {
-        refusal: Refusal::UnknownCode,
-        offset,
-        value,
-        least,
-        most,
+impl Field {
+    // A field by its parts, in one line.
+    fn of(refusal: Refusal, offset: u64, value: u64, least: u64, most: u64) -> Field
+        ensures { result ≡ record { refusal = refusal; offset = offset; value = value; least = least; most = most } }
+    {
+        Field {
+            refusal,
+            offset,
+            value,
+            least,
+            most,
+        }
     }
 }
 
-// A field with a range.
-fn ranged(offset: u64, value: u64, least: u64, most: u64) -> Field
-    ensures { result ≡ ranged offset value least most }
-{
-    Field {
-        refusal: Refusal::OutOfRange,
-        offset,
-        value,
-        least,
-        most,
-    }
-}
-
-// A field that has to be zero.
-fn unused(offset: u64, value: u64) -> Field
-    ensures { result ≡ unused offset value }
-{
-    Field {
-        refusal: Refusal::NotZero,
-        offset,
-        value,
-        least: 0,
-        most: 0,
-    }
-}
-
-// A field that only some goals use.
+// A field that only some goals use: one that is not used has to be zero.
 fn used_if(used: bool, offset: u64, value: u64, least: u64, most: u64) -> Field
     ensures { result ≡ used_if used offset value least most }
 {
     if used {
-        ranged(offset, value, least, most)
+        Field::of(Refusal::OutOfRange, offset, value, least, most)
     } else {
-        unused(offset, value)
+        Field::of(Refusal::NotZero, offset, value, 0, 0)
     }
 }
 
-// The first field of a refusal that is outside its range, by its offset. Inlined, as `Sheet::fault` is, so that each of the three searches
-// tests only its own fields: where that one alone is inlined, a refused sheet takes four times as long.
+// The first field of a refusal that is outside its range, by its offset. This and `Sheet::fault` are inlined, so that each of the three
+// searches tests only the fields of its own refusal: with `Sheet::fault` alone inlined a refused sheet takes four times as long.
 #[inline(always)]
 #[tactic(auto, unfolding(crate::specs::Fields::first_fault))]
 fn first_fault(fields: &[Field], why: Refusal) -> Option<u64>
@@ -82,31 +58,35 @@ fn first_fault(fields: &[Field], why: Refusal) -> Option<u64>
 }
 
 impl Sheet {
-    // All fields; an aim that the goal uses stands there as 0.
+    // The list `fields` as an array. The list leaves out an aim that the goal uses, which refusal 16 judges; here 0 stands in its place, in
+    // which no search finds a fault.
     fn fields(self) -> [Field; 12]
-        ensures { result ≡ codes self ++ line_fields self ++ economy_fields (uses_economy self.goal) self ++ unused 22 (if uses_aim self.goal then 0 else self.aim) ∷ [] }
+        ensures { let aim = (if uses_aim self.goal then 0 else self.aim) in
+            result ≡ codes self ++ line_fields self ++ economy_fields (uses_economy self.goal) self ++ unused 22 aim ∷ [] }
     {
         let zero = Temperature::ZERO as u64;
+        let t = self.temperature.0 as u64;
+        let ta = self.ambient.0 as u64;
         let least = self.flow.least_temperature();
         let used = self.goal.uses_economy();
         let aim = if self.goal.uses_aim() { 0 } else { self.aim };
         [
-            coded(0, self.code, 1, 5),
-            coded(1, self.service, 1, 4),
-            ranged(4, self.line.diameter.0, 100, 65_535),
-            ranged(6, self.temperature.0 as u64, least, zero + 6_500),
-            ranged(8, self.ambient.0 as u64, zero - 500, zero + 500),
-            ranged(10, self.line.conductivity, 1, 2_000),
-            ranged(12, self.line.coefficient, 100, 10_000),
+            Field::of(Refusal::UnknownCode, 0, self.code, 1, 5),
+            Field::of(Refusal::UnknownCode, 1, self.service, 1, 4),
+            Field::of(Refusal::OutOfRange, 4, self.line.diameter.0, 100, 65_535),
+            Field::of(Refusal::OutOfRange, 6, t, least, zero + 6_500),
+            Field::of(Refusal::OutOfRange, 8, ta, zero - 500, zero + 500),
+            Field::of(Refusal::OutOfRange, 10, self.line.conductivity, 1, 2_000),
+            Field::of(Refusal::OutOfRange, 12, self.line.coefficient, 100, 10_000),
             used_if(used, 14, self.economy.heat, 1, 65_535),
             used_if(used, 16, self.economy.hours, 1, 8_784),
             used_if(used, 18, self.economy.insulation, 1, 65_535),
             used_if(used, 20, self.economy.share, 1, 10_000),
-            unused(22, aim),
+            Field::of(Refusal::NotZero, 22, aim, 0, 0),
         ]
     }
 
-    // The first of the sheet's own fields.
+    // The same, of the sheet's own fields.
     #[inline(always)]
     fn fault(self, why: Refusal) -> Option<u64>
         ensures { result ≡ first_fault (number_of why) (fields self) }

@@ -68,7 +68,8 @@ pub fn write<W: io::Write>(out: &mut W, bytes: &[u8]) -> Result<(), Failure>
     out.write_all(bytes).map_err(|_| Failure::Write)
 }
 
-// Says on standard error why a program stops, if that can be written. No contract: nothing rests on it.
+// Says on standard error why a program stops, if that can be written. No contract: `Eprint` promises nothing of what it prints, and a writer
+// that does would take the message in pieces.
 pub fn complain(rt: &impl Eprint, program: &str, why: &impl fmt::Display) {
     let _ = eprintln!(rt; "{program}: {why}");
 }

@@ -5,7 +5,7 @@ ghost use Rattle.overlay.proofs.Overlay.{nothing, overlay_more};
 ghost use Rattle.overlay.proofs.Parts.{length_overlay};
 ghost use Rattle.std.proofs.Common.{refl, add-zero, add_assoc, length-append};
 
-use crate::sink::Sink;
+use crate::sink::TextSink;
 use overlay::put;
 
 // Lent bytes, and where the text that is put in them ends.
@@ -32,7 +32,7 @@ impl<'a> LentText<'a> {
     }
 }
 
-impl Sink for LentText<'_> {
+impl TextSink for LentText<'_> {
     ghost with_text = { λ t a. record t {
       bytes = record t.bytes { now = overlay t.bytes.now t.end a };
       end = t.end + length a;

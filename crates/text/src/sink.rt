@@ -2,9 +2,9 @@
 ghost use Rattle.std.specs.Prelude.{◌≡◌, ℕ, ◌+◌, ◌≤◌, List, [], ◌++◌, length};
 ghost use Rattle.text.specs.Text.{decimal, decimal_and};
 
-// A room of bytes, filled from its start.
-pub trait Sink {
-    // The sink with these bytes put where it is filled up to.
+// Room for bytes, filled up to an end, from which on a piece is put.
+pub trait TextSink {
+    // The sink with these bytes put at its end.
     ghost with_text: { Self → List ℕ → Self };
 
     // How many bytes of the room are filled.
@@ -13,7 +13,7 @@ pub trait Sink {
     // How many bytes the room has in all.
     ghost room: { Self → ℕ };
 
-    // Puts a piece.
+    // Puts a piece at the end.
     fn put(&mut self, piece: &[u8])
         requires { filled self.old + length piece.now ≤ room self.old }
         ensures { self.new ≡ with_text self.old piece.now };

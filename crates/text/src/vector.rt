@@ -1,11 +1,11 @@
-// Text in the kit's vector of fixed capacity, which lies in the value itself.
+// Text in an `ArrayVec`, a vector of fixed capacity that needs no heap.
 ghost use Rattle.std.specs.Prelude.{◌++◌, length};
 ghost use Rattle.std.proofs.Common.{refl, append-nil, append_assoc, length-append};
 
-use crate::sink::Sink;
+use crate::sink::TextSink;
 use arrayvec::ArrayVec;
 
-impl<const N: usize> Sink for ArrayVec<u8, N> {
+impl<const N: usize> TextSink for ArrayVec<u8, N> {
     ghost with_text = { λ v a. record { items = v.items ++ a } };
 
     ghost filled = { λ v. length v.items };

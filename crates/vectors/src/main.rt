@@ -124,7 +124,8 @@ fn expect_end<R: io::Read>(reader: &mut R) -> Result<(), Failure>
     }
 }
 
-// The room is an array and a length beside it, since a read fills lent bytes.
+// The room is an array and a length beside it, since a read fills lent bytes. What `fill` says of a read that failed is not needed:
+// `expect_end` finds it out.
 fn main(rt: HostRuntime) {
     let mut room = [0; 262144];
     let mut input = rt.stdin();

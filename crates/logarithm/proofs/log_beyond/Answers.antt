@@ -14,5 +14,5 @@ sub-requires c = omega (arith, parts (goal.at.sub-requires c).After-log_from_10m
 
 pub returns : goal.returns
 returns c =
-    let parts = parts (goal.at.returns c).After-log_from_10mm in
+    let sum = parts (goal.at.returns c).After-log_from_10mm in
     c.sub.ensures ∙ both_of (omega arith) (omega arith)

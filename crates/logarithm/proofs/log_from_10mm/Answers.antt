@@ -22,10 +22,10 @@ add-requires c = omega (arith, up (goal.at.add-requires c).After-log_by_steps-el
 
 pub returns-then-e-near : goal.returns-then-e-near
 returns-then-e-near c =
-    let down = down (goal.at.returns-then-e-near c).After-log_by_steps in
+    let sum = down (goal.at.returns-then-e-near c).After-log_by_steps in
     c.sub.ensures ∙ both_of (omega arith) (omega arith)
 
 pub returns-else-e-near : goal.returns-else-e-near
 returns-else-e-near c =
-    let up = up (goal.at.returns-else-e-near c).After-log_by_steps-else-e-near in
+    let sum = up (goal.at.returns-else-e-near c).After-log_by_steps-else-e-near in
     c.add.ensures ∙ both_of (omega arith) (omega arith)

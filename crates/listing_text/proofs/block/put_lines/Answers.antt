@@ -15,10 +15,10 @@ loop-sheet-preserved g c =
     let steps = c.in-Some.ensures.steps in
     let size = rw loop.invariant.size at steps.1.1 in
     let more = count all sheet rest steps.1.0 size steps.1.2 in
-    let written = rw (first_line all sheet rest steps.1.0 size steps.1.2, ← g.met.S.Sink.then) at loop.invariant.written in
+    let written = rw (first_line all sheet rest steps.1.0 size steps.1.2, ← g.met.S.TextSink.then) at loop.invariant.written in
     grind (arith, common_steps, more, written)
 
 pub returns-clause-written : goal.returns-clause-written
 returns-clause-written g c =
     let nothing = nil_from_length (chunks_rest c.loop-sheet.sheet-iterator) c.in-None.ensures.steps.1.0 in
-    rw (nothing, none, g.met.S.Sink.none) at c.loop-sheet.invariant.written
+    rw (nothing, none, g.met.S.TextSink.none) at c.loop-sheet.invariant.written

@@ -25,9 +25,9 @@ found c =
 -- the test of case 18 is of the chosen rung's verdict
 tested : (c : After-judge) → let s = c.args.sheet.sheet in (c.in_ok-rung.rung.index ≡ chosen s) × (chosen s < rungs) × (is_undecided (verdicts s (chosen s)) ≡ is_undecided c.judge.result)
 tested c =
-    let found = found (goal.at.After-judge c).After-search in
-    let rung = rw c.in_ok-rung.ensures.ok_part at found.1 in
-    (rung.0, rung.1, rw (c.judge.ensures, found.0, rung.2, rung.0))
+    let need = found (goal.at.After-judge c).After-search in
+    let rung = rw c.in_ok-rung.ensures.ok_part at need.1 in
+    (rung.0, rung.1, rw (c.judge.ensures, need.0, rung.2, rung.0))
 
 pub returns-in_err-rung : goal.returns-in_err-rung
 returns-in_err-rung c =

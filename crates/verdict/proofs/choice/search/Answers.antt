@@ -22,14 +22,14 @@ pub ladder-preserved-then-not_insufficient : goal.ladder-preserved-then-not_insu
 ladder-preserved-then-not_insufficient c =
     let l = c.args.prepared.line.line in
     let r = c.next_trial-r.result in
-    let tried = tried (goal.at.ladder-preserved-then-not_insufficient c).After-judge in
-    let meets : not_insufficient (verdict_of l c.args.required r) ≡ true = rw (← tried, ← c.judge.ensures) (sym c.if-not_insufficient.ensures) in
+    let at_trial = tried (goal.at.ladder-preserved-then-not_insufficient c).After-judge in
+    let meets : not_insufficient (verdict_of l c.args.required r) ≡ true = rw (← at_trial, ← c.judge.ensures) (sym c.if-not_insufficient.ensures) in
     grind (arith, first_not_above (verdict_of l c.args.required) r meets, cond_below r rungs (Some (rung l r)) None (omega arith))
 
 pub ladder-preserved : goal.ladder-preserved
 ladder-preserved c =
     let l = c.args.prepared.line.line in
     let r = c.next_trial-r.result in
-    let tried = tried (goal.at.ladder-preserved c).After-judge in
-    let misses = insufficient_unless (verdict_of l c.args.required r) (rw (← tried, ← c.judge.ensures) (sym c.if-not_insufficient.ensures)) in
+    let at_trial = tried (goal.at.ladder-preserved c).After-judge in
+    let misses = insufficient_unless (verdict_of l c.args.required r) (rw (← at_trial, ← c.judge.ensures) (sym c.if-not_insufficient.ensures)) in
     grind (arith, first_above (verdict_of l c.args.required) (λ i j le. insufficient_below l c.args.required le) r (omega arith) misses)
