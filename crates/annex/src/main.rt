@@ -1,4 +1,4 @@
-// Prints the annex for the printer.
+// Prints the annex for the printer. No Display: see `text`.
 #![tactic(auto)]
 
 ghost use Rattle.std.specs.Prelude.{◌≡◌, ◌+◌, ◌*◌, ◌≤◌, ◌++◌, length};

@@ -21,6 +21,7 @@ pub struct Answer {
 }
 
 impl Answer {
+    // The eight bytes. Not a `From`: one with `Sheet::decode`, which takes a slice.
     #[tactic(auto, unfolding(big_endian::specs::Bytes::bytes_of, crate::specs::Answer::encoded))]
     pub fn encode(self) -> [u8; 8]
         ensures { result ≡ encoded self }

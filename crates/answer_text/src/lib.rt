@@ -1,4 +1,4 @@
-// The text of an answer, and of a refusal.
+// The text of an answer, and of a refusal. No Display: see `text`.
 #![tactic(auto)]
 
 mod response;

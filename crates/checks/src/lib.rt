@@ -55,7 +55,8 @@ impl AdmittedSheet {
 }
 
 // How far the surface lies beyond the air at the most: 2LΔ × 10⁷ / (α × under-have), and on a flat wall LΔ × 10⁷ / (α × under-have),
-// rounded up.
+// rounded up. The quotient is that of a surface requirement, with under-have in the place of s; but s is at most 700.0 °C, and under-have goes
+// up to 2⁴⁰, so the two functions ask for different ranges.
 #[tactic(auto, unfolding(provision::specs::Provided::film))]
 fn surface_difference(at: OperatingLine, lower: u64) -> u64
     requires { (1 ≤ lower) × (lower ≤ 2 ^ 40) }

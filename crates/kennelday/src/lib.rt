@@ -1,5 +1,5 @@
-// The calls that `kennelday_c` exports for Rust and C. Each returns a number and no Result, as the C interface needs: 0, or that of the
-// refusal. A refused call leaves every lent byte as it was.
+// The calls that `kennelday_c` exports for Rust and C, word for word. Each returns a number and no Result, as the C interface needs: 0, or
+// that of the refusal. A refused call leaves every lent byte as it was.
 #![tactic(auto)]
 
 ghost use Rattle.std.specs.Prelude.{◌≡◌, ℕ, List};

@@ -23,12 +23,12 @@ fn listed_length(length: usize, failed: bool) -> usize
 
 // Writes the lines of a block of at most 512 sheets, which it puts in the text first. The functions that list take the stream, the block and
 // the text one by one: a struct of the three would be no plainer, since nothing else takes it and each borrow is of one part.
-fn list<W: io::Write, const N: usize>(
+fn list<W: io::Write>(
     out: &mut W,
     sheets: &[u8],
-    text: &mut ArrayVec<u8, N>,
+    text: &mut ArrayVec<u8, 65536>,
 ) -> Result<(), Failure>
-    requires { (length sheets.now ≤ 12_288) × (108 * 512 ≤ N) }
+    requires { length sheets.now ≤ 512 * 24 }
     ensures lines { text.new.items ≡ lines_of sheets.now }
     ensures written { OnOk result (Appends (W.contents out.old) (W.contents out.new) (lines_of sheets.now)) }
 {
@@ -38,16 +38,13 @@ fn list<W: io::Write, const N: usize>(
 }
 
 // Reads a block and lists it, and returns whether more may follow, which is so only where the block was filled.
-fn list_block<W: io::Write, R: io::Read, const N: usize>(
+fn list_block<W: io::Write, R: io::Read>(
     out: &mut W,
     reader: &mut R,
-    block: &mut [u8],
-    text: &mut ArrayVec<u8, N>,
+    block: &mut [u8; 12_288],
+    text: &mut ArrayVec<u8, 65536>,
 ) -> Result<bool, Failure>
-    requires { (length block.old ≤ 12_288) × (108 * 512 ≤ N) }
-    ensures size { length block.new ≡ length block.old }
-    ensures listed { IfOk result
-        (ListsBlock (R.remaining reader.old) (R.remaining reader.new) (W.contents out.old) (W.contents out.new) (length block.old)) }
+    ensures { IfOk result (ListsBlock (R.remaining reader.old) (R.remaining reader.new) (W.contents out.old) (W.contents out.new)) }
 {
     let (length, read) = fill(reader, block);
     let listed = listed_length(length, read.is_err());
@@ -58,14 +55,13 @@ fn list_block<W: io::Write, R: io::Read, const N: usize>(
 
 // Lists the header, and block after block. A proved loop has to end, so it counts its turns, up to a number that no run reaches.
 #[tactic(auto, using(crate::proofs::Blocks::blocks))]
-fn list_all<W: io::Write, R: io::Read, const N: usize>(
+fn list_all<W: io::Write, R: io::Read>(
     out: &mut W,
     reader: &mut R,
-    block: &mut [u8],
-    text: &mut ArrayVec<u8, N>,
+    block: &mut [u8; 12_288],
+    text: &mut ArrayVec<u8, 65536>,
 ) -> Result<(), Failure>
-    requires { (length block.old ≤ 12_288) × (108 * 512 ≤ N) }
-    ensures { OnOk result (ListsAll (R.remaining reader.old) (W.contents out.old) (W.contents out.new) (length block.old)) }
+    ensures { OnOk result (ListsAll (R.remaining reader.old) (W.contents out.old) (W.contents out.new)) }
 {
     text.clear();
     listing_text::put_header(text);
@@ -80,8 +76,8 @@ fn list_all<W: io::Write, R: io::Read, const N: usize>(
 
 // The block is an array and a length beside it, since a read fills lent bytes.
 fn main(rt: HostRuntime) {
-    let mut block = [0; 512 * 24];
-    let mut text: ArrayVec<u8, 65536> = ArrayVec::new();
+    let mut block = [0; 12_288];
+    let mut text = ArrayVec::new();
     if let Err(failure) = list_all(&mut io::writer(&rt), &mut rt.stdin(), &mut block, &mut text) {
         complain(&rt, "listing", &failure);
     }

@@ -1,4 +1,4 @@
-// The listing's text.
+// The listing's text. No Display: see `text`.
 #![tactic(auto)]
 
 mod block;

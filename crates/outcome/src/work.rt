@@ -39,15 +39,15 @@ fn admit(sheet: Sheet) -> Result<AdmittedSheet, Refusal>
     ensures admitted { IfOk result (λ a. (a.sheet ≡ sheet) × NoneHolds (value_cases sheet)) }
     ensures refused { IfErr result (λ why. FirstHolds (number_of why) (value_cases sheet)) }
 {
-    let unknown = sheet.code_fault().is_some();
+    let unknown = sheet.fault(Refusal::UnknownCode).is_some();
     if unknown {
         return Err(Refusal::UnknownCode);
     }
-    let outside = sheet.range_fault().is_some();
+    let outside = sheet.fault(Refusal::OutOfRange).is_some();
     if outside {
         return Err(Refusal::OutOfRange);
     }
-    let not_zero = sheet.zero_fault().is_some();
+    let not_zero = sheet.fault(Refusal::NotZero).is_some();
     if not_zero {
         return Err(Refusal::NotZero);
     }

@@ -86,33 +86,12 @@ impl Sheet {
         ]
     }
 
-    // The same, of the sheet's own fields.
+    // The first of the sheet's own fields that is outside its range, of those of a refusal.
     #[inline(always)]
-    fn fault(self, why: Refusal) -> Option<u64>
+    pub fn fault(self, why: Refusal) -> Option<u64>
         ensures { result ≡ first_fault (number_of why) (fields self) }
     {
         first_fault(&self.fields(), why)
-    }
-
-    // The first code that is unknown.
-    pub fn code_fault(self) -> Option<u64>
-        ensures { result ≡ first_fault 12 (fields self) }
-    {
-        self.fault(Refusal::UnknownCode)
-    }
-
-    // The first field that the goal uses and that is outside its range.
-    pub fn range_fault(self) -> Option<u64>
-        ensures { result ≡ first_fault 13 (fields self) }
-    {
-        self.fault(Refusal::OutOfRange)
-    }
-
-    // The first field that the goal does not use and that is not zero.
-    pub fn zero_fault(self) -> Option<u64>
-        ensures { result ≡ first_fault 14 (fields self) }
-    {
-        self.fault(Refusal::NotZero)
     }
 
     // The surface aim.

@@ -25,7 +25,7 @@ impl fmt::Display for Failure {
 
 // Reads until the block is full, the input ends or a read fails. Returns how many bytes that brought, and beside it whether no read failed:
 // what came before a read that failed counts too.
-// A loop of its own: no method of io::Read says how much came before the input ended.
+// A loop of its own: no method of io::Read that fills lent bytes says how much came before the input ended; `read_to_end` needs the heap.
 #[tactic(auto, using(crate::proofs::Consumed::more))]
 pub fn fill<R: io::Read>(reader: &mut R, block: &mut [u8]) -> (usize, Result<(), Failure>)
     ensures within { result.0 ≤ length block.new }

@@ -8,7 +8,7 @@ ghost use Rattle.std.proofs.Common.{refl, add-zero, add_assoc, length-append};
 use crate::sink::TextSink;
 use overlay::put;
 
-// Lent bytes, and where the text that is put in them ends.
+// Lent bytes, and where the text that is put in them ends: a caller lends bytes at any offset, and no vector of the library's starts in them.
 #[derive(Drop)]
 pub struct LentText<'a> {
     bytes: &'a mut [u8],
