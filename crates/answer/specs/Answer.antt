@@ -1,4 +1,4 @@
--- The bytes of an answer. 01, "The answer: 8 bytes".
+-- The bytes of an answer. 01, "The answer: 8 bytes", and 02, N5.
 -- Assumes nothing.
 use Rattle.std.specs.Prelude.{ℕ, List, ◌∷◌, ◌++◌, Option, Some, None}
 use Rattle.line.specs.declared.Shape.{Shape}
@@ -6,8 +6,15 @@ use Rattle.line.specs.declared.Shape.TheVariants.{Cylinder, Flat}
 use Rattle.verdict.specs.declared.Verdict.{Verdict}
 use Rattle.verdict.specs.declared.Verdict.TheVariants.{Sufficient, Insufficient, Undecided}
 use Rattle.answer.specs.declared.Answer.{Answer}
+use Rattle.answer.specs.declared.Pass.{Pass}
+use Rattle.answer.specs.declared.Pass.TheVariants.{First, Second}
 use Rattle.big_endian.specs.Bytes.{bytes_of}
 use Rattle.temperatures.specs.Temperature.{encoded as twos_complement}
+
+-- "Byte 0 is 0."; after a second pass, "Byte 0 of the answer is then 1 in place of 0." (02, N5)
+abbrev pub pass_code : Pass → ℕ
+pass_code First = 0
+pass_code Second = 1
 
 -- "Byte 1: 1 cylinder, 2 flat."
 abbrev pub shape_code : Shape → ℕ
@@ -25,9 +32,9 @@ abbrev pub loss_code : Option Verdict → ℕ
 loss_code (Some v) = check_code v
 loss_code None = 3
 
--- "Byte 0 is 0. Byte 1: 1 cylinder, 2 flat. Bytes 2–3: thickness in mm. Byte 4, loss check … Byte 5, surface check … Bytes 6–7: surface
+-- "Byte 0 is 0" or, after a second pass, 1. "Byte 1: 1 cylinder, 2 flat. Bytes 2–3: thickness in mm. Byte 4, loss check … Byte 5, surface check … Bytes 6–7: surface
 -- bound in 0.1 °C, signed."
 unfoldable pub encoded : Answer → List ℕ
 encoded a =
-    0 ∷ shape_code a.shape ∷
+    pass_code a.pass ∷ shape_code a.shape ∷
     (bytes_of 2 a.thickness.0 ++ (loss_code a.loss ∷ check_code a.surface ∷ bytes_of 2 (twos_complement a.bound)))

@@ -2,17 +2,25 @@
 #![tactic(auto)]
 
 ghost use Rattle.std.specs.Prelude.{◌≡◌};
-ghost use Rattle.answer.specs.Answer.{shape_code, check_code, loss_code, encoded};
+ghost use Rattle.answer.specs.Answer.{pass_code, shape_code, check_code, loss_code, encoded};
 
 use lengths::Thickness;
 use line::Shape;
 use temperatures::Temperature;
 use verdict::Verdict;
 
-// The thickness with its two checks, that of the loss where a limit is printed, and the bound on the surface's temperature: an upper one on
+// The pass that gives the thickness: a sheet that goes by the loss limit may take a second one.
+#[derive(Clone, Copy, Debug, PartialEq, Eq)]
+pub enum Pass {
+    First,
+    Second,
+}
+
+// The thickness with the pass that gives it and its two checks, that of the loss where a limit is printed, and the bound on the surface's temperature: an upper one on
 // a hot line, a lower one on a cold one.
 #[derive(Clone, Copy, Debug, PartialEq, Eq)]
 pub struct Answer {
+    pub pass: Pass,
     pub shape: Shape,
     pub thickness: Thickness,
     pub loss: Option<Verdict>,
@@ -29,7 +37,7 @@ impl Answer {
         let thickness = self.thickness.0.to_be_bytes();
         let bound = self.bound.encode().to_be_bytes();
         [
-            0,
+            pass_code(self.pass),
             shape_code(self.shape),
             thickness[0],
             thickness[1],
@@ -41,7 +49,16 @@ impl Answer {
     }
 }
 
-// These codes are the bytes' alone, so they are not the discriminants of the two enums, which other crates declare.
+// These codes are the bytes' alone, so they are not the discriminants of the enums, of which other crates declare two.
+fn pass_code(pass: Pass) -> u8
+    ensures { result ≡ pass_code pass }
+{
+    match pass {
+        Pass::First => 0,
+        Pass::Second => 1,
+    }
+}
+
 fn shape_code(shape: Shape) -> u8
     ensures { result ≡ shape_code shape }
 {

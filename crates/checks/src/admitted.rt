@@ -1,21 +1,28 @@
 // A sheet that none of the refusals 12 to 16 sends back.
-ghost use Rattle.std.specs.Prelude.{◌≡◌};
+ghost use Rattle.std.specs.Prelude.{◌≡◌, is_some, true};
+ghost use Rattle.limits.specs.Limits.{loss_limit};
+ghost use Rattle.limits.specs.Printed.{printed};
+ghost use Rattle.answer.specs.declared.Pass.TheVariants.{Second};
 ghost use Rattle.sheet.specs.Sheet.{difference, goal_of};
 ghost use Rattle.sheet.specs.Admitted.{Admitted};
+ghost use Rattle.sheet.specs.Passes.{goal_in};
 ghost use Rattle.sheet.proofs.OneProof.{one_proof};
 
+use limits::loss_limit;
 use line::{CheckedLine, OperatingLine};
 use requirement::Goal;
 use sheet::{GoalCode, Sheet};
 
-// The sheet, and its line at Δ.
+// The sheet, its line at Δ, and the loss limit at its temperature, where one is printed.
 #[derive(Clone, Copy, Debug, PartialEq, Eq)]
 pub struct AdmittedSheet {
     pub sheet: Sheet,
     pub at: OperatingLine,
+    pub limit: Option<u64>,
     pub ghost admitted: { Admitted sheet } by { one_proof sheet },
     pub ghost line_is: { at.line.line ≡ sheet.line },
     pub ghost difference_is: { at.difference ≡ difference sheet },
+    pub ghost limit_is: { limit ≡ printed (loss_limit sheet.service sheet.temperature) },
 }
 
 impl AdmittedSheet {
@@ -28,6 +35,7 @@ impl AdmittedSheet {
         AdmittedSheet {
             sheet,
             at: OperatingLine { line, difference },
+            limit: loss_limit(sheet.service, sheet.temperature),
         }
     }
 
@@ -43,5 +51,14 @@ impl AdmittedSheet {
                 sheet.flow.difference(sheet.surface_aim(), sheet.ambient),
             ),
         }
+    }
+
+    // The goal of a second pass: 90 per cent of the loss limit.
+    #[tactic(auto, using(limits::proofs::Size::printed_size))]
+    pub fn second_goal(self) -> Goal
+        requires { is_some self.limit ≡ true }
+        ensures { result ≡ goal_in self.sheet Second }
+    {
+        Goal::Loss(self.limit.unwrap() * 90 / 100)
     }
 }

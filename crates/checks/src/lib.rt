@@ -6,11 +6,12 @@ mod admitted;
 ghost use Rattle.std.specs.Prelude.{◌≡◌, ◌^◌, ◌≤◌};
 ghost use Rattle.fractions.specs.Fraction.{◌over◌};
 ghost use Rattle.fractions.specs.Rounding.{ceiling};
-ghost use Rattle.sheet.specs.Answer.{loss_check, surface_check, surface_difference, surface_bound};
+ghost use Rattle.sheet.specs.Answer.{surface_difference, surface_bound};
+ghost use Rattle.sheet.specs.Checks.{loss_check, surface_check};
 
 pub use admitted::AdmittedSheet;
 use fractions::{Bounds, quotient};
-use limits::{loss_limit, surface_limit};
+use limits::surface_limit;
 use line::OperatingLine;
 use requirement::{Goal, required};
 use temperatures::Temperature;
@@ -19,16 +20,16 @@ use verdict::{Verdict, judge};
 // The checks of an admitted sheet, and the bound on its surface's temperature, at a thickness that provides `provided`.
 impl AdmittedSheet {
     // The loss check, where a limit is printed.
-    #[tactic(auto, unfolding(sheet::specs::Answer::loss_check))]
+    #[tactic(auto, unfolding(sheet::specs::Checks::loss_check))]
     pub fn loss_check(self, provided: Bounds) -> Option<Verdict>
         ensures { result ≡ loss_check self.sheet provided }
     {
-        let limit = loss_limit(self.sheet.service, self.sheet.temperature)?;
+        let limit = self.limit?;
         Some(judge(provided, required(self.at, Goal::Loss(limit))))
     }
 
     // The surface check: a pipe that is itself no warmer than the limit is within it.
-    #[tactic(auto, unfolding(sheet::specs::Answer::surface_check))]
+    #[tactic(auto, unfolding(sheet::specs::Checks::surface_check))]
     pub fn surface_check(self, provided: Bounds) -> Verdict
         ensures { result ≡ surface_check self.sheet provided }
     {

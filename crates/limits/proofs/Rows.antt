@@ -5,7 +5,7 @@ use mathlib.Core.Bool.{Bool, true, false, cond, ◌||◌, or-true}
 use mathlib.Core.List.{List, [], ◌∷◌}
 use mathlib.Core.Logic.{inl, inr}
 use mathlib.Core.Option.{Option, none, some, none-ne-some}
-use Prim.Native.Nat.{ℕ, zero, suc, ◌+◌, ◌-◌, ◌*◌, ◌≤◌, ◌<◌}
+use Prim.Native.Nat.{ℕ, zero, suc, min, ◌+◌, ◌-◌, ◌*◌, ◌/◌, ◌≤◌, ◌<◌}
 use native.Mathlib.Nat.{not-suc-le-zero, le_of_suc-le-suc, eq-or-lt_of_le}
 use native.Mathlib.Omega.{arith}
 use lib.Dec.{leb, eqb}
@@ -65,6 +65,16 @@ pub record Beyond (t : Temperature) (n x : ℕ) : Type 0 where
   pub in_table : n < 13
   pub distance : t.0 ≡ zero_degrees + 500 * suc n + x
   pub near : suc n < 13 → x < 500
+
+-- the row of a temperature by division, the last one where it is above that, and how far it is beyond
+abbrev pub row_of : Temperature → ℕ
+row_of t = min 12 ((t.0 - (zero_degrees + 500)) / 500)
+
+abbrev pub past : Temperature → ℕ
+past t = t.0 - (zero_degrees + 500 * suc (row_of t))
+
+pub position : (t : Temperature) → zero_degrees + 500 ≤ t.0 → Beyond t (row_of t) (past t)
+position t from = omega arith
 
 -- the limit there
 abbrev pub limit_at : ℕ → ℕ → ℕ → ℕ

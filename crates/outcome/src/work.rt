@@ -1,24 +1,29 @@
 // The call that answers a sheet.
-ghost use Rattle.std.specs.Prelude.{◌≡◌, ◌<◌, IfOk, IfErr};
+ghost use Rattle.std.specs.Prelude.{◌≡◌, ◌<◌, cond, IfOk, IfErr, Ok, Err, Some, None};
+ghost use Rattle.refusals.specs.declared.Refusal.TheVariants.{TooClose};
+ghost use Rattle.verdict.specs.declared.Verdict.TheVariants.{Insufficient};
+ghost use Rattle.requirement.specs.Ranges.{GoalInRange};
 ghost use Rattle.lengths.specs.Ladder.{thickness_at, rungs};
 ghost use Rattle.refusals.specs.Cases.{NoneHolds, FirstHolds};
 ghost use Rattle.refusals.specs.Numbers.{number_of};
 ghost use Rattle.refusals.specs.Response.{respond};
 ghost use Rattle.provision.specs.Provided.{provided};
-ghost use Rattle.sheet.specs.Search.{chosen};
+ghost use Rattle.sheet.specs.Checks.{loss_check};
+ghost use Rattle.sheet.specs.Passes.{check_between, pass_after, too_close, deciding_pass, chosen};
 ghost use Rattle.answer.specs.Answer.{encoded};
 ghost use Rattle.sheet.specs.Answer.{answer_of};
 ghost use Rattle.sheet.specs.Refusals.{value_cases, ladder_cases, response_to};
 ghost use Rattle.outcome.specs.Outcome.{response};
+ghost use Rattle.outcome.specs.Pass.{pass_by};
 
-use answer::Answer;
+use answer::{Answer, Pass};
 use checks::AdmittedSheet;
 use lengths::Ladder;
 use provision::Provision;
 use refusals::Refusal;
-use requirement::required;
+use requirement::{Goal, required};
 use sheet::Sheet;
-use verdict::{Rung, judge, search};
+use verdict::{Rung, Verdict, judge, search};
 
 // Works out the sheet that these bytes are.
 #[tactic(auto, unfolding(refusals::specs::Response::respond))]
@@ -62,29 +67,65 @@ fn admit(sheet: Sheet) -> Result<AdmittedSheet, Refusal>
     Ok(AdmittedSheet::of(sheet))
 }
 
-// Tries the ladder: the first rung that does not miss has to meet.
+// Tries the ladder by the sheet's own goal, and again where that has to respect the loss limit and the loss check says over.
 fn search_ladder(sheet: AdmittedSheet) -> Result<Answer, Refusal>
     ensures { response result ≡ respond (ladder_cases sheet.sheet) (encoded (answer_of sheet.sheet (chosen sheet.sheet))) }
 {
-    let need = required(sheet.at, sheet.goal());
-    let rung = search(Provision::of(sheet.at.line), need).ok_or(Refusal::NoneSufficient)?;
+    let prepared = Provision::of(sheet.at.line);
+    let first = pass(sheet, prepared, sheet.goal())?;
+    let loss = sheet.loss_check(first.provided);
+    match next_pass(sheet.sheet.limited, loss)? {
+        Pass::First => Ok(answer_of(sheet, Pass::First, first, loss)),
+        Pass::Second => second_pass(sheet, prepared),
+    }
+}
+
+// The pass that decides, by the loss check of the first one's rung.
+fn next_pass(limited: bool, loss: Option<Verdict>) -> Result<Pass, Refusal>
+    ensures { let check = cond limited loss None in result ≡ cond (too_close check) (Err TooClose) (Ok (pass_after check)) }
+{
+    match loss {
+        Some(Verdict::Insufficient) if limited => Ok(Pass::Second),
+        Some(Verdict::Undecided) if limited => Err(Refusal::TooClose),
+        _ => Ok(Pass::First),
+    }
+}
+
+// Tries the ladder again, by 90 per cent of the loss limit.
+fn second_pass(sheet: AdmittedSheet, prepared: Provision) -> Result<Answer, Refusal>
+    requires { (prepared.line ≡ sheet.at.line) × (check_between sheet.sheet ≡ Some Insufficient) }
+    ensures { response result ≡ respond (ladder_cases sheet.sheet) (encoded (answer_of sheet.sheet (chosen sheet.sheet))) }
+{
+    let rung = pass(sheet, prepared, sheet.second_goal())?;
+    let loss = sheet.loss_check(rung.provided);
+    Ok(answer_of(sheet, Pass::Second, rung, loss))
+}
+
+// A pass over the ladder: the first rung that does not miss has to meet.
+fn pass(sheet: AdmittedSheet, prepared: Provision, goal: Goal) -> Result<Rung, Refusal>
+    requires { (prepared.line ≡ sheet.at.line) × GoalInRange goal }
+    ensures { result ≡ pass_by sheet.sheet goal }
+{
+    let need = required(sheet.at, goal);
+    let rung = search(prepared, need).ok_or(Refusal::NoneSufficient)?;
     let open = judge(rung.provided, need).is_undecided();
     if open {
         return Err(Refusal::TooClose);
     }
-    Ok(answer_of(sheet, rung))
+    Ok(rung)
 }
 
-// The answer with a rung.
+// The answer with a rung, by the pass that found it.
 #[tactic(auto, using(provision::proofs::Sizes::provided_size), unfolding(sheet::specs::Answer::answer_of))]
-fn answer_of(sheet: AdmittedSheet, rung: Rung) -> Answer
-    requires { (rung.index < rungs) × (rung.provided ≡ provided sheet.sheet.line (thickness_at rung.index)) }
+fn answer_of(sheet: AdmittedSheet, pass: Pass, rung: Rung, loss: Option<Verdict>) -> Answer
+    requires { (pass ≡ deciding_pass sheet.sheet) × (rung.index < rungs) × (rung.provided ≡ provided sheet.sheet.line (thickness_at rung.index)) × (loss ≡ loss_check sheet.sheet rung.provided) }
     ensures { result ≡ answer_of sheet.sheet rung.index }
 {
     Answer {
+        pass,
         shape: sheet.sheet.line.shape(),
         thickness: Ladder::thickness(rung.index),
-        loss: sheet.loss_check(rung.provided),
+        loss,
         surface: sheet.surface_check(rung.provided),
         bound: sheet.surface_bound(rung.provided),
     }

@@ -12,7 +12,7 @@ use borrow.Enum.Match.{AllBelow, each_below}
 use Rattle.temperatures.specs.declared.Temperature.{Temperature}
 use Rattle.temperatures.specs.Temperature.{zero_degrees, tenths_celsius}
 use Rattle.limits.specs.Limits.{Row, column, limit_of, loss_limit}
-use Rattle.limits.proofs.Rows.{nth, nth_at, row_present, row_indexed, Beyond, limit_at, limit_at_lem, none_below}
+use Rattle.limits.proofs.Rows.{nth, nth_at, row_present, row_indexed, Beyond, row_of, past, position, limit_at, limit_at_lem, none_below}
 use Rattle.promises.specs.Limits.{Neighbouring, NoneAbove, Limits}
 
 -- The limits rise from row to row, as far as they are printed: so it is in both columns.
@@ -67,30 +67,20 @@ module _ (service : ℕ) (low high : Row) (t : Temperature) (x : ℕ) (rows : Ne
   straight : 3 ≤ service → loss_limit service t ≡ line / 500
   straight lines = rw (limit, lt-leb service 2 lines) (start (limit_of service low) (limit_of service high) x)
 
--- the row of a temperature by division, the last one where it is above that, and how far it is beyond
-abbrev row : Temperature → ℕ
-row t = min 12 ((t.0 - (zero_degrees + 500)) / 500)
-
-abbrev past : Temperature → ℕ
-past t = t.0 - (zero_degrees + 500 * suc (row t))
-
-position : (t : Temperature) → zero_degrees + 500 ≤ t.0 → Beyond t (row t) (past t)
-position t from = omega arith
-
 -- A service whose limits are printed in the rows before `last`.
 module _ (service last : ℕ) (printed : AllBelow 13 (λ n. n < last → 0 < limit_of service (nth n))) (t : Temperature) (from : zero_degrees + 500 ≤ t.0) where
   printed_in : (n : ℕ) → n < 13 → n < last → 0 < limit_of service (nth n)
   printed_in = each_below 13 (λ n. n < last → 0 < limit_of service (nth n)) printed
 
-  limit_here : loss_limit service t ≡ limit_at service (row t) (past t)
-  limit_here = limit_at_lem service t (row t) (past t) (position t from)
+  limit_here : loss_limit service t ≡ limit_at service (row_of t) (past t)
+  limit_here = limit_at_lem service t (row_of t) (past t) (position t from)
 
   kept : service ≤ 2 → t.0 < zero_degrees + 500 * suc last → 0 < loss_limit service t
-  kept rows to = rw (limit_here, le-leb service 2 rows) (printed_in (row t) (omega arith) (omega arith))
+  kept rows to = rw (limit_here, le-leb service 2 rows) (printed_in (row_of t) (omega arith) (omega arith))
 
   lined : last ≤ 13 → t.0 ≤ zero_degrees + 500 * last → 0 < loss_limit service t
   lined most to =
-      let n = row t in
+      let n = row_of t in
       let within : n < last = omega arith in
       let low = printed_in n (omega arith) within in
       elim (eq-or-lt_of_le within) [
@@ -107,11 +97,11 @@ none_seasonal = each_below 13 (λ n. 8 ≤ n → (nth n).seasonal ≡ 0) (omega 
 
 none_interpolated : NoneAbove 4 (tenths_celsius 4_000)
 none_interpolated t above =
-    let from : 7 ≤ row t = omega arith in
-    rw (limit_at_lem 4 t (row t) (past t) (position t (omega arith)))
+    let from : 7 ≤ row_of t = omega arith in
+    rw (limit_at_lem 4 t (row_of t) (past t) (position t (omega arith)))
     (elim (eq-or-lt_of_le from) [
-      | inl e ↦ rw (ne_eqb (past t) 0 (λ z. omega arith), none_seasonal (suc (row t)) (omega arith) (omega arith), or-true)
-      | inr lt ↦ rw (none_seasonal (row t) (omega arith) lt) (chosen (λ l. l ≡ 0) (eqb (past t) 0) refl refl)
+      | inl e ↦ rw (ne_eqb (past t) 0 (λ z. omega arith), none_seasonal (suc (row_of t)) (omega arith) (omega arith), or-true)
+      | inr lt ↦ rw (none_seasonal (row_of t) (omega arith) lt) (chosen (λ l. l ≡ 0) (eqb (past t) 0) refl refl)
     ])
 
 pub limits : Limits
@@ -134,7 +124,7 @@ limits =
       all_year = record { printed = λ t from to. kept 1 13 (omega arith) t from (omega arith) (omega arith); none_below = none_below 1 };
       seasonal = (
         record { printed = λ t from to. kept 2 8 (omega arith) t from (omega arith) (omega arith); none_below = none_below 2 },
-        λ t above. rw (limit_at_lem 2 t (row t) (past t) (position t (omega arith)), none_seasonal (row t) (omega arith) (omega arith)),
+        λ t above. rw (limit_at_lem 2 t (row_of t) (past t) (position t (omega arith)), none_seasonal (row_of t) (omega arith) (omega arith)),
       );
       year_round_interpolated = record { printed = λ t from to. lined 3 13 (omega arith) t from (omega arith) to; none_below = none_below 3 };
       seasonal_interpolated = (record { printed = λ t from to. lined 4 8 (omega arith) t from (omega arith) to; none_below = none_below 4 }, none_interpolated);

@@ -2,3 +2,4 @@ pub mod FirstFault
 pub mod Ladder
 pub mod Admitted
 pub mod OneProof
+pub mod Passes

@@ -1,4 +1,4 @@
--- The ranges of a sheet's fields, and the first field that is outside its range. 01, "The sheet: 24 bytes", and 02, N2 and N4.
+-- The ranges of a sheet's fields, and the first field that is outside its range. 01, "The sheet: 24 bytes", and 02, N2, N4 and N5.
 -- Assumes nothing.
 use Rattle.std.specs.Prelude.{ℕ, ◌+◌, ◌-◌, Bool, true, false, ◌&&◌, List, [], ◌∷◌, ◌++◌, eqb, Option, option_map, find}
 use Rattle.refusals.specs.declared.Refusal.TheVariants.{UnknownCode, OutOfRange, NotZero}
@@ -18,14 +18,14 @@ coded o x l m = record { refusal = UnknownCode; offset = o; value = x; least = l
 abbrev pub ranged : ℕ → ℕ → ℕ → ℕ → Field
 ranged o x l m = record { refusal = OutOfRange; offset = o; value = x; least = l; most = m }
 
--- "14: an unused field not zero, or goal 1 with an aim not zero."; goal 5 is like goal 1 here
+-- "14: an unused field not zero, or goal 1 with an aim not zero."; goals 5 and 6 are like goal 1 here
 abbrev pub unused : ℕ → ℕ → Field
 unused o x = record { refusal = NotZero; offset = o; value = x; least = 0; most = 0 }
 
 -- "1 economy, 2 loss, 3 surface", "1 year-round, 2 seasonal", "service 3 (year-round) or 4 (seasonal)" (02, N2), "Goal 4 is cold surface",
--- "goal 5 is cold economy" (02, N4)
+-- "goal 5 is cold economy" (02, N4), and goal 6 (02, N5)
 abbrev pub codes : Sheet → List Field
-codes s = coded 0 s.code 1 5 ∷ coded 1 s.service 1 4 ∷ []
+codes s = coded 0 s.code 1 6 ∷ coded 1 s.service 1 4 ∷ []
 
 -- D, t, ta, L and α
 abbrev pub line_fields : Sheet → List Field
@@ -41,7 +41,7 @@ abbrev pub used_if : Bool → ℕ → ℕ → ℕ → ℕ → Field
 used_if true o x l m = ranged o x l m
 used_if false o x l m = unused o x
 
--- f, τ, P and S: "Offsets 14–21 are used for goal 1 only and are zero otherwise"; goal 5 uses them "as goal 1 does" (02, N4)
+-- f, τ, P and S: "Offsets 14–21 are used for goal 1 only and are zero otherwise"; goal 5 uses them "as goal 1 does" (02, N4), and so does goal 6
 abbrev pub economy_fields : Bool → Sheet → List Field
 economy_fields used s =
     used_if used 14 s.economy.heat 1 65_535 ∷
@@ -49,7 +49,7 @@ economy_fields used s =
     used_if used 18 s.economy.insulation 1 65_535 ∷
     used_if used 20 s.economy.share 1 10_000 ∷ []
 
--- "The aim is zero for goal 1.", and for goal 5 (02, N4). Another goal's aim is judged by 16.
+-- "The aim is zero for goal 1.", and for goals 5 (02, N4) and 6 (02, N5). Another goal's aim is judged by 16.
 abbrev pub aim_fields : Bool → Sheet → List Field
 aim_fields true s = []
 aim_fields false s = unused 22 s.aim ∷ []

@@ -1,6 +1,7 @@
--- What is sent back. 01, "Sent back because of the sheet"; 02, N4: "Refusals 12 to 16 read these conditions for goals 4 and 5".
+-- What is sent back. 01, "Sent back because of the sheet"; 02, N4: "Refusals 12 to 16 read these conditions for goals 4 and 5";
+-- and N5.
 -- Assumes nothing.
-use Rattle.std.specs.Prelude.{ℕ, Bool, false, not, ◌&&◌, List, [], ◌∷◌, ◌++◌, eqb, length, is_some}
+use Rattle.std.specs.Prelude.{ℕ, Bool, false, not, ◌&&◌, ◌||◌, List, [], ◌∷◌, ◌++◌, eqb, length, is_some}
 use Rattle.lengths.specs.Ladder.{rungs}
 use Rattle.refusals.specs.declared.Refusal.{Refusal}
 use Rattle.refusals.specs.declared.Refusal.TheVariants.{SheetLength, UnknownCode, OutOfRange, NotZero, NoDrivingDifference, InvalidAim, NoneSufficient, TooClose}
@@ -14,7 +15,7 @@ use Rattle.sheet.specs.declared.fields.GoalCode.TheVariants.{ForEconomy, ForLoss
 use Rattle.sheet.specs.declared.fields.Sheet.{Sheet}
 use Rattle.sheet.specs.Sheet.{decoded, surface_aim}
 use Rattle.sheet.specs.Fields.{fields, first_fault}
-use Rattle.sheet.specs.Search.{verdicts, chosen}
+use Rattle.sheet.specs.Passes.{check_between, too_close, verdicts, chosen}
 use Rattle.sheet.specs.Answer.{answer}
 
 -- "goal 2 with aim 0; goal 3 unless ta < aim < t."; goal 4 unless "t < aim < ta" (02, N4)
@@ -34,7 +35,7 @@ value_cases s =
     case (number_of UnknownCode) (faulty s UnknownCode) ∷
     -- "13: a field outside its range."
     case (number_of OutOfRange) (faulty s OutOfRange) ∷
-    -- "14: an unused field not zero, or goal 1 with an aim not zero."; goal 5 is like goal 1 here
+    -- "14: an unused field not zero, or goal 1 with an aim not zero."; goals 5 and 6 are like goal 1 here
     case (number_of NotZero) (faulty s NotZero) ∷
     -- "15: t not above ta."; for goals 4 and 5, for which "t is below ta" (02, N4), t not below ta
     case (number_of NoDrivingDifference) (not (beyond s.flow s.temperature s.ambient)) ∷
@@ -49,13 +50,13 @@ field_cases bytes =
     case (number_of SheetLength) (not (eqb (length bytes) 24)) ∷
     value_cases (decoded bytes)
 
--- the cases that try the ladder
+-- the cases that try the ladder, in the pass that decides: "The second pass can meet 17 and 18 as the first can." (02, N5)
 abbrev pub ladder_cases : Sheet → List Case
 ladder_cases s =
     -- "17: all 31 rungs miss."
     case (number_of NoneSufficient) (eqb (chosen s) rungs) ∷
-    -- "18: the first rung that doesn't miss is open."
-    case (number_of TooClose) (is_undecided (verdicts s (chosen s))) ∷
+    -- "18: the first rung that doesn't miss is open."; "If the check says too close, the sheet gets 18." (02, N5)
+    case (number_of TooClose) (is_undecided (verdicts s (chosen s)) || too_close (check_between s)) ∷
     []
 
 abbrev pub cases : List ℕ → List Case

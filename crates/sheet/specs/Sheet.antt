@@ -1,4 +1,4 @@
--- The fields of a sheet. 01, "The sheet: 24 bytes", and 02, N4.
+-- The fields of a sheet. 01, "The sheet: 24 bytes", and 02, N4 and N5.
 -- Assumes nothing.
 use Rattle.std.specs.Prelude.{ℕ, Bool, true, false, cond, ◌||◌, List, eqb, get_or}
 use Rattle.big_endian.specs.Bytes.{big_endian}
@@ -14,13 +14,18 @@ use Rattle.sheet.specs.declared.fields.GoalCode.{GoalCode}
 use Rattle.sheet.specs.declared.fields.GoalCode.TheVariants.{ForEconomy, ForLoss, ForSurface}
 use Rattle.sheet.specs.declared.fields.Sheet.{Sheet}
 
--- "1 economy, 2 loss, 3 surface"; "Goal 4 is cold surface", "goal 5 is cold economy" (02, N4). Every other code is refused with 12.
+-- "1 economy, 2 loss, 3 surface"; "Goal 4 is cold surface", "goal 5 is cold economy" (02, N4); "Goal 6 is goal 1 with that second pass"
+-- (02, N5). Every other code is refused with 12.
 abbrev pub goal_code : ℕ → GoalCode
-goal_code n = cond (eqb n 1 || eqb n 5) ForEconomy (cond (eqb n 2) ForLoss ForSurface)
+goal_code n = cond (eqb n 1 || eqb n 5 || eqb n 6) ForEconomy (cond (eqb n 2) ForLoss ForSurface)
 
 -- goals 4 and 5 are those of "Cold lines" (02, N4)
 abbrev pub flow_of : ℕ → HeatFlow
 flow_of n = cond (eqb n 4 || eqb n 5) Inward Outward
+
+-- goal 6 is that of "Economy that respects the loss limit" (02, N5)
+abbrev pub within_limit : ℕ → Bool
+within_limit n = eqb n 6
 
 -- "2–3": the "line number", which no other figure depends on
 abbrev pub line_number : List ℕ → ℕ
@@ -33,6 +38,7 @@ decoded b =
       code = get_or b 0 0;
       goal = goal_code (get_or b 0 0);
       flow = flow_of (get_or b 0 0);
+      limited = within_limit (get_or b 0 0);
       service = get_or b 1 0;
       line = record { diameter = tenths (big_endian b 4 2); conductivity = big_endian b 10 2; coefficient = big_endian b 12 2 };
       temperature = signed (big_endian b 6 2);
@@ -41,13 +47,14 @@ decoded b =
       aim = big_endian b 22 2;
     }
 
--- "Offsets 14–21 are used for goal 1 only"; "Goal 5 uses offsets 14–21 as goal 1 does and its aim is zero." (02, N4)
+-- "Offsets 14–21 are used for goal 1 only"; "Goal 5 uses offsets 14–21 as goal 1 does and its aim is zero." (02, N4); goal 6 is "goal 1 with"
+-- a "second pass; its aim is zero" (02, N5)
 abbrev pub uses_economy : GoalCode → Bool
 uses_economy ForEconomy = true
 uses_economy ForLoss = false
 uses_economy ForSurface = false
 
--- "The aim is zero for goal 1.", and for goal 5
+-- "The aim is zero for goal 1.", and for goals 5 and 6
 abbrev pub uses_aim : GoalCode → Bool
 uses_aim ForEconomy = false
 uses_aim ForLoss = true

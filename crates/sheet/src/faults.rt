@@ -71,7 +71,7 @@ impl Sheet {
         let used = self.goal.uses_economy();
         let aim = if self.goal.uses_aim() { 0 } else { self.aim };
         [
-            Field::of(Refusal::UnknownCode, 0, self.code, 1, 5),
+            Field::of(Refusal::UnknownCode, 0, self.code, 1, 6),
             Field::of(Refusal::UnknownCode, 1, self.service, 1, 4),
             Field::of(Refusal::OutOfRange, 4, self.line.diameter.0, 100, 65_535),
             Field::of(Refusal::OutOfRange, 6, t, least, zero + 6_500),

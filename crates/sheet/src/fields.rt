@@ -1,6 +1,6 @@
 // The fields of a sheet's 24 bytes.
 ghost use Rattle.std.specs.Prelude.{◌≡◌, length};
-ghost use Rattle.sheet.specs.Sheet.{goal_code, flow_of, uses_economy, uses_aim, decoded};
+ghost use Rattle.sheet.specs.Sheet.{goal_code, flow_of, within_limit, uses_economy, uses_aim, decoded};
 
 use big_endian::unsigned;
 use heat_flow::HeatFlow;
@@ -9,7 +9,7 @@ use line::Line;
 use requirement::EconomyTerms;
 use temperatures::Temperature;
 
-// The kind of goal by its code: 1 and 5 economy, 2 loss, and every other surface.
+// The kind of goal by its code: 1, 5 and 6 economy, 2 loss, and every other surface.
 #[derive(Clone, Copy, Debug, PartialEq, Eq)]
 pub enum GoalCode {
     ForEconomy,
@@ -24,7 +24,7 @@ impl GoalCode {
         ensures { result ≡ goal_code code }
     {
         match code {
-            1 | 5 => GoalCode::ForEconomy,
+            1 | 5 | 6 => GoalCode::ForEconomy,
             2 => GoalCode::ForLoss,
             _ => GoalCode::ForSurface,
         }
@@ -55,7 +55,14 @@ fn flow_of(code: u64) -> HeatFlow
     }
 }
 
-// The goal's code as it is written and as it is read, the direction of the heat's flow, the service, the insulated line, the temperatures t
+// Does a goal's code ask for a thickness that respects the loss limit? 6 does.
+fn within_limit(code: u64) -> bool
+    ensures { result ≡ within_limit code }
+{
+    code == 6
+}
+
+// The goal's code as it is written and as it is read, the direction of the heat's flow, whether the thickness has to respect the loss limit, the service, the insulated line, the temperatures t
 // of the pipe and ta of the air, the economy terms, and the aim as it is written. Any 24 bytes are a sheet, so code and service are numbers:
 // refusal 12 is of a number that is no goal or service.
 #[derive(Clone, Copy, Debug, PartialEq, Eq)]
@@ -63,6 +70,7 @@ pub struct Sheet {
     pub code: u64,
     pub goal: GoalCode,
     pub flow: HeatFlow,
+    pub limited: bool,
     pub service: u64,
     pub line: Line,
     pub temperature: Temperature,
@@ -83,6 +91,7 @@ impl Sheet {
             code,
             goal: GoalCode::of(code),
             flow: flow_of(code),
+            limited: within_limit(code),
             service: bytes[1] as u64,
             line: Line {
                 diameter: Diameter(unsigned(bytes, 4)),

@@ -24,6 +24,12 @@ not_insufficient Sufficient = true
 not_insufficient Insufficient = false
 not_insufficient Undecided = true
 
+-- does it meet?
+abbrev pub is_sufficient : Verdict → Bool
+is_sufficient Sufficient = true
+is_sufficient Insufficient = false
+is_sufficient Undecided = false
+
 -- is it open?
 abbrev pub is_undecided : Verdict → Bool
 is_undecided Sufficient = false

@@ -1,47 +1,53 @@
--- The search is for the need of the sheet's own goal, so what it found is the chosen rung.
-use Rattle.std.proofs.Common.{◌≡◌, ◌<◌, sym, ◌∙◌, arith}
+-- The first pass, and what its loss check says comes next.
+use Rattle.std.proofs.Common.{◌≡◌, refl, sym, ◌∙◌, ap, Ok, Err}
 use Rattle.std.proofs.lemmas.Result.{err_from_is_err_and}
-use Rattle.fractions.specs.declared.Bounds.{Bounds}
-use Rattle.lengths.specs.Ladder.{rungs}
-use Rattle.refusals.specs.declared.Refusal.TheVariants.{NoneSufficient}
-use Rattle.verdict.specs.Verdict.{is_undecided}
-use Rattle.verdict.proofs.Choices.{Told, told}
-use Rattle.sheet.specs.declared.fields.Sheet.{Sheet}
+use Rattle.answer.specs.declared.Pass.TheVariants.{First}
 use Rattle.sheet.specs.Sheet.{goal_of}
-use Rattle.sheet.specs.Search.{required_of, verdicts, chosen}
-use Rattle.sheet.proofs.Ladder.{all_insufficient, first_undecided, first_decided}
-use Rattle.outcome.proofs.work.search_ladder.Goals.{After-search, After-judge}
+use Rattle.sheet.specs.Passes.{check_between, deciding_pass}
+use Rattle.outcome.specs.Pass.{pass_by}
+use Rattle.outcome.proofs.Passes.{next, next_refused, next_pass, after_over, unchecked, checked, refused_by, Given, given, closed}
+use Rattle.outcome.proofs.work.search_ladder.Goals.{After-next_pass, In-First}
 use Rattle.outcome.proofs.work.search_ladder.Goals as goal
 
-abbrev own_need : Sheet → Bounds
-own_need s = required_of s (goal_of s)
+-- the first pass found its rung, and what comes next is by the loss check between the passes
+first_found : (c : After-next_pass) → pass_by c.args.sheet.sheet (goal_of c.args.sheet.sheet) ≡ Ok c.in_ok-first.first
+first_found c = rw (← c.goal.ensures, ← c.pass.ensures) c.in_ok-first.was
 
-found : (c : After-search) → let s = c.args.sheet.sheet in (c.required-need.result ≡ own_need s) × Told s.line (own_need s) c.search.result
-found c =
+after : (c : After-next_pass) → next (check_between c.args.sheet.sheet) ≡ c.next_pass.result
+after c = ap next (checked c.args.sheet.sheet c.in_ok-first.first (first_found c)) ∙ rw (← c.loss_check-loss.ensures) (sym c.next_pass.ensures)
+
+-- where that is the first pass, its rung is the chosen one
+stands : (c : In-First) → let s = c.args.sheet.sheet in (deciding_pass s ≡ First) × Given s c.in_ok-first.first
+stands c =
+    let before = (goal.at.In-First c).After-next_pass in
+    let is = next_pass _ (after before ∙ rw (← c.in-First.is) c.in_ok-next_pass.was) in
+    (is.1, given c.args.sheet.sheet First is.1 is.0 c.in_ok-first.first (first_found before))
+
+pub returns-in_err-first : goal.returns-in_err-first
+returns-in_err-first c =
     let s = c.args.sheet.sheet in
-    let need : c.required-need.result ≡ own_need s = rw (c.required-need.ensures, c.goal.ensures, c.args.sheet.line_is, c.args.sheet.difference_is) in
-    (need, rw (c.search.ensures, c.of.ensures, c.args.sheet.line_is, need) (told s.line (own_need s)))
-
--- the test of case 18 is of the chosen rung's verdict
-tested : (c : After-judge) → let s = c.args.sheet.sheet in (c.in_ok-rung.rung.index ≡ chosen s) × (chosen s < rungs) × (is_undecided (verdicts s (chosen s)) ≡ is_undecided c.judge.result)
-tested c =
-    let need = found (goal.at.After-judge c).After-search in
-    let rung = rw c.in_ok-rung.ensures.ok_part at need.1 in
-    (rung.0, rung.1, rw (c.judge.ensures, need.0, rung.2, rung.0))
-
-pub returns-in_err-rung : goal.returns-in_err-rung
-returns-in_err-rung c =
     let p = err_from_is_err_and c.from_residual.result c.from_residual.ensures.1 in
-    let all = rw c.in_err-rung.ensures.ok_part at (found (goal.at.returns-in_err-rung c).After-search).1 in
-    let why : c.in_err-rung.field-0.0 ≡ NoneSufficient = grind arith in
-    rw (p.1, p.2, why) (sym (all_insufficient c.args.sheet.sheet _ all))
+    let why = c.in_err-first.field-0.0 in
+    let none : pass_by s (goal_of s) ≡ Err why = rw (← c.goal.ensures, ← c.pass.ensures) c.in_err-first.was in
+    rw (p.1, p.2) (sym (refused_by s First (rw (unchecked s why none)) (rw (unchecked s why none)) _ why none))
 
-pub returns-then-open : goal.returns-then-open
-returns-then-open c =
-    let rung = tested (goal.at.returns-then-open c).After-judge in
-    sym (first_undecided c.args.sheet.sheet _ rung.1 (rung.2 ∙ sym c.if-open.ensures))
+pub returns-in_err-next_pass : goal.returns-in_err-next_pass
+returns-in_err-next_pass c =
+    let p = err_from_is_err_and c.from_residual-in_err-next_pass.result c.from_residual-in_err-next_pass.ensures.1 in
+    let before = (goal.at.returns-in_err-next_pass c).After-next_pass in
+    let close = next_refused _ (after before ∙ c.in_err-next_pass.was) in
+    rw (p.1, p.2, close.1) (sym (closed c.args.sheet.sheet _ c.in_ok-first.first (first_found before) close.0))
 
-pub returns : goal.returns
-returns c =
-    let rung = tested (goal.at.returns c).After-judge in
-    rw (c.answer_of.ensures, rung.0) (sym (first_decided c.args.sheet.sheet _ rung.1 (rung.2 ∙ sym c.if-open.ensures)))
+pub answer_of-requires : goal.answer_of-requires
+answer_of-requires c =
+    let g = stands (goal.at.answer_of-requires c).In-First in
+    (sym g.0, rw g.1.found.is g.1.found.on_ladder, rw g.1.found.is refl, c.loss_check-loss.ensures)
+
+pub second_pass-requires : goal.second_pass-requires
+second_pass-requires c =
+    (c.of-prepared.ensures, after_over _ (next_pass _ (after (goal.at.second_pass-requires c).After-next_pass ∙ rw (← c.in-Second.is) c.in_ok-next_pass.was)).1)
+
+pub returns-in-First : goal.returns-in-First
+returns-in-First c =
+    let g = (stands (goal.at.returns-in-First c).In-First).1 in
+    rw (c.answer_of.ensures, g.found.is) (sym (g.response _))

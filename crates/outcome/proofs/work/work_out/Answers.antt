@@ -9,7 +9,7 @@ use Rattle.refusals.proofs.Response.{later, first_counts}
 use Rattle.answer.specs.Answer.{encoded}
 use Rattle.sheet.specs.declared.fields.Sheet.{Sheet}
 use Rattle.sheet.specs.Sheet.{decoded}
-use Rattle.sheet.specs.Search.{chosen}
+use Rattle.sheet.specs.Passes.{chosen}
 use Rattle.sheet.specs.Answer.{answer_of, answer}
 use Rattle.sheet.specs.Refusals.{value_cases, ladder_cases}
 use Rattle.outcome.proofs.work.work_out.Goals as goal

@@ -1,0 +1,140 @@
+-- How the passes over the ladder end, and what the definitions respond then.
+-- Assumes nothing.
+use mathlib.Core.Path.{◌≡◌, refl, ◌∙◌, sym, ap}
+use mathlib.Core.Bool.{Bool, true, false, cond, ◌&&◌, ◌||◌, and-true, and-false, or-true}
+use mathlib.Core.List.{List}
+use Prim.Native.Nat.{ℕ, ◌<◌}
+use native.Mathlib.Omega.{arith}
+use lib.Dec.{ltb}
+use borrow.Author.Tests.{ltb-true, ltb-false, lt-ltb}
+use Rattle.std.specs.Prelude.{Option, Some, None, Result, Ok, Err}
+use Rattle.lengths.specs.Ladder.{rungs, thickness_at}
+use Rattle.refusals.specs.declared.Refusal.{Refusal}
+use Rattle.refusals.specs.declared.Refusal.TheVariants.{NoneSufficient, TooClose}
+use Rattle.refusals.specs.Numbers.{number_of}
+use Rattle.refusals.specs.Response.{Response, refused, complete, respond}
+use Rattle.requirement.specs.declared.Goal.{Goal}
+use Rattle.provision.specs.Provided.{provided}
+use Rattle.verdict.specs.declared.Verdict.{Verdict}
+use Rattle.verdict.specs.declared.Verdict.TheVariants.{Sufficient, Insufficient, Undecided}
+use Rattle.verdict.specs.declared.choice.Rung.{Rung}
+use Rattle.verdict.specs.Verdict.{not_insufficient, is_sufficient, is_undecided}
+use Rattle.verdict.specs.Choice.{rung}
+use Rattle.verdict.proofs.FirstRung.{first_within, first_not_insufficient_lem}
+use Rattle.answer.specs.declared.Pass.{Pass}
+use Rattle.answer.specs.declared.Pass.TheVariants.{First, Second}
+use Rattle.sheet.specs.declared.fields.Sheet.{Sheet}
+use Rattle.sheet.specs.Sheet.{goal_of}
+use Rattle.sheet.specs.Search.{verdicts_by, first_by}
+use Rattle.sheet.specs.Checks.{loss_check}
+use Rattle.sheet.specs.Passes.{goal_in, succeeds, check_between, pass_after, too_close, deciding_pass, deciding, verdicts, chosen}
+use Rattle.sheet.specs.Refusals.{ladder_cases}
+use Rattle.sheet.proofs.Ladder.{all_insufficient, first_undecided, first_decided}
+use Rattle.outcome.specs.Pass.{pass_by}
+
+-- a verdict that does not miss and is not open
+sufficient : (x : Verdict) → not_insufficient x ≡ true → is_undecided x ≡ false → is_sufficient x ≡ true
+sufficient Sufficient t u = refl
+sufficient Insufficient t u = cc
+sufficient Undecided t u = cc
+
+not_sufficient : (x : Verdict) → is_undecided x ≡ true → is_sufficient x ≡ false
+not_sufficient Sufficient u = cc
+not_sufficient Insufficient u = refl
+not_sufficient Undecided u = refl
+
+-- what comes after a loss check between the passes
+abbrev pub next : Option Verdict → Result Pass Refusal
+next c = cond (too_close c) (Err TooClose) (Ok (pass_after c))
+
+pub next_refused : (c : Option Verdict) {why : Refusal} → next c ≡ Err why → (too_close c ≡ true) × (why ≡ TooClose)
+next_refused (Some Sufficient) e = cc
+next_refused (Some Insufficient) e = cc
+next_refused (Some Undecided) e = (refl, cc)
+next_refused None e = cc
+
+pub next_pass : (c : Option Verdict) {p : Pass} → next c ≡ Ok p → (too_close c ≡ false) × (pass_after c ≡ p)
+next_pass (Some Sufficient) e = (refl, cc)
+next_pass (Some Insufficient) e = (refl, cc)
+next_pass (Some Undecided) e = cc
+next_pass None e = (refl, cc)
+
+pub after_over : (c : Option Verdict) → pass_after c ≡ Second → c ≡ Some Insufficient
+after_over (Some Sufficient) e = cc
+after_over (Some Insufficient) e = refl
+after_over (Some Undecided) e = cc
+after_over None e = cc
+
+module _ (s : Sheet) where
+  -- a pass found the rung r, or none
+  pub record Found (goal : Goal) (r : Rung) : Type 0 where
+    pub is : r ≡ rung s.line (first_by s goal)
+    pub on_ladder : first_by s goal < rungs
+    pub succeeded : succeeds s goal ≡ true
+
+  abbrev pub Told : Goal → Result Rung Refusal → Type 0
+  Told goal (Ok r) = Found goal r
+  Told goal (Err why) = succeeds s goal ≡ false
+
+  pub told : (goal : Goal) → Told goal (pass_by s goal)
+  told goal = go (ltb (first_by s goal) rungs) (is_undecided (verdicts_by s goal (first_by s goal))) refl refl
+    where
+      go :
+          (a b : Bool) → ltb (first_by s goal) rungs ≡ a → is_undecided (verdicts_by s goal (first_by s goal)) ≡ b →
+          Told goal (cond a (cond b (Err TooClose) (Ok (rung s.line (first_by s goal)))) (Err NoneSufficient))
+      go true true e f = rw (e, not_sufficient _ f)
+      go true false e f =
+          let lt = ltb-true (first_by s goal) rungs e in
+          record { is = refl; on_ladder = lt; succeeded = rw (e, sufficient _ (first_not_insufficient_lem (verdicts_by s goal) lt) f) }
+      go false b e f = rw e
+
+  -- the loss check between the passes, where the first found none, and where it found r
+  pub unchecked : (why : Refusal) → pass_by s (goal_of s) ≡ Err why → check_between s ≡ None
+  unfolding check_between
+  unchecked why e = let none : succeeds s (goal_of s) ≡ false = rw e at (told (goal_of s)) in rw (none, and-false)
+
+  pub checked : (r : Rung) → pass_by s (goal_of s) ≡ Ok r → check_between s ≡ cond s.limited (loss_check s r.provided) None
+  unfolding check_between
+  checked r e = let found : Found (goal_of s) r = rw e at (told (goal_of s)) in rw (found.succeeded, found.is, and-true)
+
+  -- the response where the check is not too close: the pass that decides gives it
+  abbrev pub of_pass : List ℕ → Result Rung Refusal → Response
+  of_pass bytes (Ok r) = complete bytes
+  of_pass bytes (Err why) = refused (number_of why)
+
+  pub ended : (bytes : List ℕ) → too_close (check_between s) ≡ false → respond (ladder_cases s) bytes ≡ of_pass bytes (pass_by s (deciding s))
+  ended bytes far = go (ltb (chosen s) rungs) (is_undecided (verdicts s (chosen s))) refl refl
+    where
+      go :
+          (a b : Bool) → ltb (chosen s) rungs ≡ a → is_undecided (verdicts s (chosen s)) ≡ b →
+          respond (ladder_cases s) bytes ≡ of_pass bytes (cond a (cond b (Err TooClose) (Ok (rung s.line (chosen s)))) (Err NoneSufficient))
+      go true true e f = first_undecided s bytes (ltb-true _ _ e) (rw f)
+      go true false e f = first_decided s bytes (ltb-true _ _ e) (rw (f, far))
+      go false b e f = all_insufficient s bytes (omega (arith, ltb-false _ _ e, first_within (verdicts s)))
+
+  -- the sheet is answered with the rung r
+  pub record Given (r : Rung) : Type 0 where
+    pub found : Found (deciding s) r
+    pub response : (bytes : List ℕ) → respond (ladder_cases s) bytes ≡ complete bytes
+
+  -- the pass p decides: what it refuses is refused, and the rung that it finds is the chosen one
+  module _ (p : Pass) (decides : deciding_pass s ≡ p) (far : too_close (check_between s) ≡ false) where
+    pub refused_by : (bytes : List ℕ) (why : Refusal) → pass_by s (goal_in s p) ≡ Err why → respond (ladder_cases s) bytes ≡ refused (number_of why)
+    refused_by bytes why e = ended bytes far ∙ rw (decides, e)
+
+    pub given : (r : Rung) → pass_by s (goal_in s p) ≡ Ok r → Given r
+    given r e =
+        let is : pass_by s (deciding s) ≡ Ok r = rw (decides, e) in
+        record { found = rw is at (told (deciding s)); response = λ bytes. ended bytes far ∙ ap (of_pass bytes) is }
+
+  -- the response where it is too close, the first pass having found r
+  pub closed : (bytes : List ℕ) (r : Rung) → pass_by s (goal_of s) ≡ Ok r → too_close (check_between s) ≡ true → respond (ladder_cases s) bytes ≡ refused 18
+  closed bytes r e close = go (check_between s) refl close
+    where
+      go : (c : Option Verdict) → check_between s ≡ c → too_close c ≡ true → respond (ladder_cases s) bytes ≡ refused 18
+      go (Some Sufficient) is close = cc
+      go (Some Insufficient) is close = cc
+      go (Some Undecided) is close =
+          let found : Found (goal_of s) r = rw e at (told (goal_of s)) in
+          first_undecided s bytes (rw is found.on_ladder) (rw (is, or-true))
+      go None is close = cc

@@ -1,0 +1,29 @@
+-- The loss check is over, so the second pass decides, and a limit is printed.
+use Rattle.std.proofs.Common.{◌≡◌, ◌≤◌, sym, ◌∙◌, arith, false}
+use borrow.Author.Tests.{ne_eqb}
+use Rattle.std.proofs.lemmas.Result.{err_from_is_err_and}
+use Rattle.sheet.specs.Passes.{check_between, too_close}
+use Rattle.sheet.proofs.Passes.{between, Printed, printed_for, second_aim_some}
+use Rattle.answer.specs.declared.Pass.TheVariants.{Second}
+use Rattle.outcome.proofs.Passes.{refused_by, given}
+use Rattle.outcome.proofs.work.second_pass.Goals.{Start}
+use Rattle.outcome.proofs.work.second_pass.Goals as goal
+
+limited : (c : Start) → Printed c.args.sheet.sheet
+limited c = let s = c.args.sheet.sheet in printed_for s _ _ (between s _ c.requires.1).says
+
+pub second_goal-requires : goal.second_goal-requires
+second_goal-requires c = rw (c.args.sheet.limit_is, ne_eqb _ 0 (limited c))
+
+pub pass-requires : goal.pass-requires
+pass-requires c = (c.requires.0, rw c.second_goal.ensures (second_aim_some c.args.sheet.sheet (limited (goal.at.pass-requires c).Start)))
+
+pub returns-in_err-rung : goal.returns-in_err-rung
+returns-in_err-rung c =
+    let p = err_from_is_err_and c.from_residual.result c.from_residual.ensures.1 in
+    rw (p.1, p.2) (sym (refused_by c.args.sheet.sheet Second (rw c.requires.1) (rw c.requires.1) _ _ (rw (← c.second_goal.ensures, ← c.pass.ensures) c.in_err-rung.was)))
+
+pub returns : goal.returns
+returns c =
+    let g = given c.args.sheet.sheet Second (rw c.requires.1) (rw c.requires.1) c.in_ok-rung.rung (rw (← c.second_goal.ensures, ← c.pass.ensures) c.in_ok-rung.was) in
+    rw (c.answer_of.ensures, g.found.is) (sym (g.response _))

@@ -1,0 +1,49 @@
+-- What it means that there is a loss check between the passes.
+-- Assumes nothing.
+use mathlib.Core.Path.{◌≡◌, refl}
+use mathlib.Core.Bool.{Bool, true, false, cond, ◌&&◌}
+use Prim.Native.Nat.{ℕ, ◌≤◌}
+use native.Mathlib.Omega.{arith}
+use borrow.Author.Tests.{eq-eqb}
+use Rattle.std.specs.Prelude.{Option, Some, None}
+use Rattle.fractions.specs.declared.Bounds.{Bounds}
+use Rattle.lengths.specs.Ladder.{thickness_at}
+use Rattle.provision.specs.Provided.{provided}
+use Rattle.verdict.specs.declared.Verdict.{Verdict}
+use Rattle.limits.specs.Limits.{loss_limit}
+use Rattle.limits.proofs.Size.{some_size, limit_size}
+use Rattle.sheet.specs.declared.fields.Sheet.{Sheet}
+use Rattle.sheet.specs.Sheet.{goal_of}
+use Rattle.sheet.specs.Search.{first_by}
+use Rattle.sheet.specs.Checks.{loss_check}
+use Rattle.sheet.specs.Passes.{second_aim, succeeds, check_between}
+
+-- the loss check of the first pass's rung
+abbrev pub first_check : Sheet → Option Verdict
+first_check s = loss_check s (provided s.line (thickness_at (first_by s (goal_of s))))
+
+-- it is the check between the passes, and says v
+pub record Between (s : Sheet) (v : Verdict) : Type 0 where
+  pub limited : s.limited ≡ true
+  pub succeeded : succeeds s (goal_of s) ≡ true
+  pub says : first_check s ≡ Some v
+
+pub between : (s : Sheet) (v : Verdict) → check_between s ≡ Some v → Between s v
+unfolding check_between
+between s v = go s.limited (succeeds s (goal_of s)) refl refl
+  where
+    go : (a b : Bool) → s.limited ≡ a → succeeds s (goal_of s) ≡ b → cond (a && b) (first_check s) None ≡ Some v → Between s v
+    go true true e f h = record { limited = e; succeeded = f; says = h }
+    go true false e f h = cc
+    go false b e f h = cc
+
+-- a limit is printed, as every check tells
+abbrev pub Printed : Sheet → Type 0
+Printed s = ¬ (loss_limit s.service s.temperature ≡ 0)
+
+pub printed_for : (s : Sheet) (p : Bounds) (v : Verdict) → loss_check s p ≡ Some v → Printed s
+unfolding loss_check
+printed_for s p v h e = let none : None ≡ Some v = rw (eq-eqb _ _ e) at h in cc
+
+pub second_aim_some : (s : Sheet) → Printed s → 1 ≤ second_aim s
+second_aim_some s some = omega (arith, some_size (limit_size s.service s.temperature) some)
