@@ -14,11 +14,13 @@ use Rattle.verdict.proofs.FirstRung.{least_anywhere}
 use Rattle.verdict.proofs.Judgement.{MeetsOn, MissesOn, meets_stays, sound}
 use Rattle.big_endian.specs.Bytes.{big_endian}
 use Rattle.sheet.specs.declared.fields.Sheet.{Sheet}
-use Rattle.sheet.specs.Sheet.{decoded, difference, goal_of}
-use Rattle.sheet.specs.Search.{requirement_of, verdicts, chosen}
+use Rattle.sheet.specs.Sheet.{decoded, difference}
+use Rattle.sheet.specs.Search.{requirement_of}
+use Rattle.sheet.specs.Passes.{deciding, verdicts, chosen}
 use Rattle.sheet.specs.Answer.{answer}
 use Rattle.sheet.specs.Refusals.{cases}
 use Rattle.sheet.specs.Admitted.{Admitted}
+use Rattle.sheet.proofs.Passes.{deciding_in_range}
 use Rattle.layout.specs.Layout.{standard}
 use Rattle.layout.proofs.Standard.{standard_usable}
 use Rattle.book.specs.Book.{new_book, with_entry}
@@ -49,8 +51,8 @@ demand_2 =
     record { of_sheets = sheet_demand_2; reads_back = reads_back standard standard_usable refl; takes_sheets = takes_sheets standard standard_usable refl }
 
 -- no denominator is 0
-proper : (s : Sheet) → Admitted s → 0 < denominator (requirement_of s (goal_of s))
-proper s in_range = in_range_proper s.line (difference s) (goal_of s) in_range.line in_range.goal
+proper : (s : Sheet) → Admitted s → 0 < denominator (requirement_of s (deciding s))
+proper s in_range = in_range_proper s.line (difference s) (deciding s) in_range.line (deciding_in_range s in_range)
 
 pub denominators : Denominators
 denominators sheet bytes h m hm r =
@@ -70,7 +72,7 @@ surface_bound_lem sheet bytes h m hm =
 pub demand_3 : Demand3
 demand_3 sheet bytes h m hm r lt =
     let s = decoded sheet in
-    let q = requirement_of s (goal_of s) in
+    let q = requirement_of s (deciding s) in
     let got = answered sheet bytes h in
     let known = got.0 in
     let some = proper s known.admitted in

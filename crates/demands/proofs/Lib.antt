@@ -1,3 +1,4 @@
+pub mod Passes
 pub mod Sheets
 pub mod Surface
 pub mod Entries

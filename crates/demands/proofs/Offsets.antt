@@ -47,10 +47,10 @@ module _ (b : List ℕ) where
 
   in_order :
       map (λ (f : Field). f.offset) (fields (decoded b)) ≡
-      (0 ∷ 1 ∷ 4 ∷ 6 ∷ 8 ∷ 10 ∷ 12 ∷ 14 ∷ 16 ∷ 18 ∷ 20 ∷ cond (eqb (get_or b 0 0) 1 || eqb (get_or b 0 0) 5) (22 ∷ []) [])
+      (0 ∷ 1 ∷ 4 ∷ 6 ∷ 8 ∷ 10 ∷ 12 ∷ 14 ∷ 16 ∷ 18 ∷ 20 ∷ cond (eqb (get_or b 0 0) 1 || eqb (get_or b 0 0) 5 || eqb (get_or b 0 0) 6) (22 ∷ []) [])
   unfolding decoded
   in_order =
-      ap (λ (rest : List ℕ). 0 ∷ 1 ∷ 4 ∷ 6 ∷ 8 ∷ 10 ∷ 12 ∷ rest) (own_order (decoded b) (eqb (get_or b 0 0) 1 || eqb (get_or b 0 0) 5) (eqb (get_or b 0 0) 2))
+      ap (λ (rest : List ℕ). 0 ∷ 1 ∷ 4 ∷ 6 ∷ 8 ∷ 10 ∷ 12 ∷ rest) (own_order (decoded b) (eqb (get_or b 0 0) 1 || eqb (get_or b 0 0) 5 || eqb (get_or b 0 0) 6) (eqb (get_or b 0 0) 2))
 
 pub offsets : Offsets
 offsets = record { order = in_order; values = λ b. each b (fields (decoded b)) (all b) }

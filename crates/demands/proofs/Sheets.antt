@@ -1,7 +1,8 @@
 -- What demand 2 says of a sheet.
 -- Assumes nothing.
 use mathlib.Core.Path.{◌≡◌, refl, ◌∙◌, ap}
-use mathlib.Core.Bool.{true, false}
+use mathlib.Core.Bool.{true, false, or-true}
+use mathlib.Core.Logic.{inl, inr}
 use mathlib.Core.List.{List, [], ◌∷◌, ◌++◌}
 use Prim.Native.Nat.{ℕ, ◌<◌}
 use native.Mathlib.Omega.{arith}
@@ -14,7 +15,7 @@ use Rattle.refusals.proofs.Response.{later, absent, completed, behind, front}
 use Rattle.verdict.specs.declared.Verdict.{Verdict}
 use Rattle.verdict.specs.declared.Verdict.TheVariants.{Sufficient, Insufficient, Undecided}
 use Rattle.verdict.specs.Verdict.{not_insufficient, is_undecided}
-use Rattle.verdict.proofs.FirstRung.{first_within, misses_before, first_not_insufficient_lem, first_is, first_none}
+use Rattle.verdict.proofs.FirstRung.{first_within, misses_before, first_not_insufficient_lem, first_none}
 use Rattle.big_endian.proofs.Numerals.{number_bytes}
 use Rattle.big_endian.specs.Bytes.{big_endian, bytes_of}
 use Rattle.temperatures.specs.Temperature.{decoded as signed, encoded as twos_complement}
@@ -23,14 +24,17 @@ use Rattle.heat_flow.proofs.Differences.{bound_fits}
 use Rattle.answer.specs.declared.Answer.{Answer}
 use Rattle.answer.specs.Answer.{encoded}
 use Rattle.sheet.specs.declared.fields.Sheet.{Sheet}
-use Rattle.sheet.specs.Sheet.{decoded}
-use Rattle.sheet.specs.Search.{verdicts, chosen}
+use Rattle.sheet.specs.Sheet.{decoded, goal_of}
+use Rattle.sheet.specs.Search.{verdicts_by, first_by}
+use Rattle.sheet.specs.Passes.{goal_in, succeeds, check_between, too_close, deciding_pass, deciding, verdicts, chosen}
 use Rattle.sheet.specs.Answer.{surface_bound, answer_of, answer}
 use Rattle.sheet.specs.Refusals.{field_cases, ladder_cases, cases, response_to}
 use Rattle.sheet.specs.Admitted.{Admitted}
 use Rattle.sheet.proofs.Admitted.{admitted}
-use Rattle.sheet.proofs.Ladder.{all_insufficient, first_undecided}
-use Rattle.demands.specs.Demands.{InsufficientBelow, AnswerTo, FirstUndecided, SheetDemand2}
+use Rattle.sheet.proofs.Ladder.{open_or_close, all_insufficient, first_undecided}
+use Rattle.demands.specs.Demands.{AnswerTo, Seventeen, Eighteen, SheetDemand2}
+use Rattle.demands.specs.Demands.Eighteen.{open_in, too_close as too_near}
+use Rattle.demands.proofs.Passes.{neither, either, close, found_first, check_is, checked, reaches, decides, decided, none_found, open_first, open_found}
 
 -- none of two lists of cases holds
 none_parts : (cs ds : List Case) → NoneHolds (cs ++ ds) → NoneHolds cs × NoneHolds ds
@@ -43,6 +47,7 @@ pub record Answered (sheet : List ℕ) : Type 0 where
   pub admitted : Admitted (decoded sheet)
   pub found : chosen (decoded sheet) < rungs
   pub enough : verdicts (decoded sheet) (chosen (decoded sheet)) ≡ Sufficient
+  pub far : too_close (check_between (decoded sheet)) ≡ false
 
 sufficient : (x : Verdict) → not_insufficient x ≡ true → is_undecided x ≡ false → x ≡ Sufficient
 sufficient Sufficient t u = refl
@@ -57,7 +62,8 @@ answered sheet bytes h =
     let none = none_parts (field_cases sheet) (ladder_cases s) got.0 in
     let not_all : ¬ (chosen s ≡ rungs) = eqb-false _ _ none.1.0 in
     let lt : chosen s < rungs = omega (arith, first_within (verdicts s)) in
-    (record { admitted = admitted s none.0.1; found = lt; enough = sufficient _ (first_not_insufficient_lem (verdicts s) lt) none.1.1.0 }, got.1)
+    let decided = neither _ _ none.1.1.0 in
+    (record { admitted = admitted s none.0.1; found = lt; enough = sufficient _ (first_not_insufficient_lem (verdicts s) lt) decided.0; far = decided.1 }, got.1)
 
 -- the numbers in an answer's bytes, of fields that fit theirs
 module _ (a : Answer) where
@@ -83,6 +89,7 @@ answer_to sheet known =
       on_ladder = known.found;
       sufficient = known.enough;
       first = misses_before (verdicts s);
+      pass = decides s (check_between s) refl known.far;
       size = refl;
       start = refl;
       shape = refl;
@@ -98,35 +105,44 @@ undecided Insufficient e = cc
 undecided Undecided e = refl
 
 module _ (sheet : List ℕ) where
-  abbrev v : ℕ → Verdict
-  v = verdicts (decoded sheet)
+  abbrev s : Sheet
+  s = decoded sheet
 
-  abbrev c : ℕ
-  c = chosen (decoded sheet)
-
-  only_17 : response_to sheet ≡ refused 17 → NoneHolds (field_cases sheet) × InsufficientBelow v rungs
+  only_17 : response_to sheet ≡ refused 17 → NoneHolds (field_cases sheet) × Seventeen s
   unfolding absent
   only_17 h =
-      let got = behind 17 (field_cases sheet) (ladder_cases (decoded sheet)) (answer sheet) refl h in
-      let all : c ≡ rungs = eqb-true _ _ (front 17 (eqb c rungs) (case 18 (is_undecided (v c)) ∷ []) (answer sheet) refl got.1) in
-      (got.0, λ r lt. misses_before v r (omega arith))
+      let got = behind 17 (field_cases sheet) (ladder_cases s) (answer sheet) refl h in
+      let all : chosen s ≡ rungs = eqb-true _ _ (front 17 (eqb (chosen s) rungs) (case 18 (open_or_close s) ∷ []) (answer sheet) refl got.1) in
+      (got.0, record { pass = deciding_pass s; reached = reaches s (deciding_pass s) refl; all_miss = λ r lt. misses_before (verdicts s) r (omega arith) })
 
-  when_17 : NoneHolds (field_cases sheet) × InsufficientBelow v rungs → response_to sheet ≡ refused 17
-  when_17 h = later (field_cases sheet) (ladder_cases (decoded sheet)) (answer sheet) h.0 ∙ all_insufficient (decoded sheet) (answer sheet) (first_none v h.1)
+  when_17 : NoneHolds (field_cases sheet) × Seventeen s → response_to sheet ≡ refused 17
+  when_17 h =
+      let goal = goal_in s h.1.pass in
+      let is = decided s h.1.pass h.1.reached (none_found s goal h.1.all_miss) in
+      later (field_cases sheet) (ladder_cases s) (answer sheet) h.0 ∙ all_insufficient s (answer sheet) (rw is (first_none (verdicts_by s goal) h.1.all_miss))
 
-  only_18 : response_to sheet ≡ refused 18 → NoneHolds (field_cases sheet) × FirstUndecided v
+  only_18 : response_to sheet ≡ refused 18 → NoneHolds (field_cases sheet) × Eighteen s
   unfolding absent NoneHolds
   only_18 h =
-      let got = behind 18 (field_cases sheet) (ladder_cases (decoded sheet)) (answer sheet) refl h in
-      let end = behind 18 (case 17 (eqb c rungs) ∷ []) (case 18 (is_undecided (v c)) ∷ []) (answer sheet) refl got.1 in
-      let some : ¬ (c ≡ rungs) = eqb-false _ _ end.0.0 in
-      (got.0, (c, omega (arith, first_within v), undecided (v c) (front 18 (is_undecided (v c)) [] (answer sheet) refl end.1), misses_before v))
+      let got = behind 18 (field_cases sheet) (ladder_cases s) (answer sheet) refl h in
+      let end = behind 18 (case 17 (eqb (chosen s) rungs) ∷ []) (case 18 (open_or_close s) ∷ []) (answer sheet) refl got.1 in
+      let some : ¬ (chosen s ≡ rungs) = eqb-false _ _ end.0.0 in
+      let lt : chosen s < rungs = omega (arith, first_within (verdicts s)) in
+      (got.0, elim (either _ _ (front 18 (open_or_close s) [] (answer sheet) refl end.1)) [
+        | inl u ↦ open_in (deciding_pass s) (reaches s (deciding_pass s) refl) (chosen s, lt, undecided _ u, misses_before (verdicts s))
+        | inr c ↦ too_near (checked s Undecided (close (check_between s) c))
+      ])
 
-  when_18 : NoneHolds (field_cases sheet) × FirstUndecided v → response_to sheet ≡ refused 18
+  when_open : Eighteen s → (chosen s < rungs) × (open_or_close s ≡ true)
+  when_open (open_in p reached f) =
+      let goal = goal_in s p in
+      rw (decided s p reached (open_found s goal f), open_first s goal f) (f.1, rw f.2)
+  when_open (too_near c) = rw (check_is s Undecided c, found_first s (goal_of s) c.found) (c.found.on_ladder, or-true _)
+
+  when_18 : NoneHolds (field_cases sheet) × Eighteen s → response_to sheet ≡ refused 18
   when_18 h =
-      let r = h.1.0 in
-      let is : c ≡ r = first_is v r h.1.1 (ap not_insufficient h.1.2) h.1.3 in
-      later (field_cases sheet) (ladder_cases (decoded sheet)) (answer sheet) h.0 ∙ first_undecided (decoded sheet) (answer sheet) (rw is h.1.1) (rw is (ap is_undecided h.1.2))
+      let is = when_open h.1 in
+      later (field_cases sheet) (ladder_cases s) (answer sheet) h.0 ∙ first_undecided s (answer sheet) is.0 is.1
 
 pub sheet_demand_2 : (sheet : List ℕ) → SheetDemand2 sheet
 sheet_demand_2 sheet =

@@ -1,6 +1,6 @@
 -- The three demands of 00, "What the book must rest on", and that the surface bound holds.
 -- Assumes nothing.
-use Rattle.std.specs.Prelude.{ℕ, ◌+◌, ◌-◌, ◌≤◌, ◌<◌, ◌≡◌, ◌⊎◌, ◌↔◌, List, [], ◌∷◌, ◌++◌, length, get_or}
+use Rattle.std.specs.Prelude.{ℕ, ◌+◌, ◌-◌, ◌≤◌, ◌<◌, ◌≡◌, ◌⊎◌, ◌↔◌, true, Some, List, [], ◌∷◌, ◌++◌, length, get_or}
 use Rattle.fractions.specs.Fraction.{Fraction, ◌over◌, plus, ◌≼◌}
 use Rattle.lengths.specs.declared.units.Diameter.{Diameter}
 use Rattle.lengths.specs.declared.units.Thickness.{Thickness}
@@ -16,15 +16,20 @@ use Rattle.refusals.specs.Response.{refused, complete, FirstOrComplete}
 use Rattle.line.specs.Line.{shape_of}
 use Rattle.provision.specs.Provided.{provided}
 use Rattle.provision.specs.Exact.{provided_exactly}
+use Rattle.requirement.specs.declared.Goal.{Goal}
 use Rattle.requirement.specs.Exact.{Meets, Misses, denominator}
 use Rattle.verdict.specs.declared.Verdict.{Verdict}
 use Rattle.verdict.specs.declared.Verdict.TheVariants.{Sufficient, Insufficient, Undecided}
-use Rattle.answer.specs.Answer.{shape_code, check_code, loss_code}
+use Rattle.answer.specs.declared.Pass.{Pass}
+use Rattle.answer.specs.declared.Pass.TheVariants.{First, Second}
+use Rattle.answer.specs.Answer.{pass_code, shape_code, check_code, loss_code}
 use Rattle.big_endian.specs.Bytes.{big_endian}
 use Rattle.sheet.specs.declared.fields.Sheet.{Sheet}
 use Rattle.sheet.specs.Sheet.{decoded, difference, goal_of}
-use Rattle.sheet.specs.Search.{requirement_of, verdicts}
-use Rattle.sheet.specs.Answer.{loss_check, surface_check, surface_difference, surface_bound, answer}
+use Rattle.sheet.specs.Search.{requirement_of, verdicts_by}
+use Rattle.sheet.specs.Checks.{loss_check, surface_check}
+use Rattle.sheet.specs.Passes.{goal_in, deciding_pass, deciding, verdicts}
+use Rattle.sheet.specs.Answer.{surface_difference, surface_bound, answer}
 use Rattle.sheet.specs.Refusals.{field_cases, cases, response_to}
 use Rattle.layout.specs.declared.offsets.Layout.{Layout}
 use Rattle.layout.specs.Layout.{standard}
@@ -57,15 +62,39 @@ pub record Demand1 : Type 0 where
 abbrev pub InsufficientBelow : (ℕ → Verdict) → ℕ → Type 0
 InsufficientBelow v r = (i : ℕ) → i < r → v i ≡ Insufficient
 
+-- a pass that searches by this goal finds a rung: "The first rung that doesn't miss is the thickness if it meets."
+pub record Found (s : Sheet) (goal : Goal) : Type 0 where
+  pub rung : ℕ
+  pub on_ladder : rung < rungs
+  pub sufficient : verdicts_by s goal rung ≡ Sufficient
+  pub first : InsufficientBelow (verdicts_by s goal) rung
+
+-- under goal 6, the loss check says v of the rung that the first pass finds (02, N5)
+pub record Checked (s : Sheet) (v : Verdict) : Type 0 where
+  pub limited : s.limited ≡ true
+  pub found : Found s (goal_of s)
+  pub says : loss_check s (provided s.line (thickness_at found.rung)) ≡ Some v
+
+-- "If the loss check says over, the rung is found again by the loss method": every sheet comes to the first pass, and such a one to the second
+abbrev pub Reaches : Sheet → Pass → Type 0
+Reaches s First = Unit {0}
+Reaches s Second = Checked s Insufficient
+
+-- which pass decides: the second where it is reached; the first where there is no check, or it says within
+abbrev pub Decides : Sheet → Pass → Type 0
+Decides s First = (v : Verdict) → Checked s v → v ≡ Sufficient
+Decides s Second = Checked s Insufficient
+
 -- Demand 2: "The thickness, the checks and the surface temperature are those that the paper's equations and whole-number figures give":
--- what is read in the eight bytes, the rung being the first that doesn't miss, which meets
+-- what is read in the eight bytes, the rung being the first that doesn't miss, which meets, in the pass that decides
 pub record AnswerTo (s : Sheet) (bytes : List ℕ) : Type 0 where
   pub rung : ℕ
   pub on_ladder : rung < rungs
   pub sufficient : verdicts s rung ≡ Sufficient
   pub first : InsufficientBelow (verdicts s) rung
+  pub pass : Decides s (deciding_pass s)
   pub size : length bytes ≡ 8
-  pub start : get_or bytes 0 0 ≡ 0
+  pub start : get_or bytes 0 0 ≡ pass_code (deciding_pass s)
   pub shape : get_or bytes 1 0 ≡ shape_code (shape_of s.line)
   pub thickness : big_endian bytes 2 2 ≡ (thickness_at rung).0
   pub loss : get_or bytes 4 0 ≡ loss_code (loss_check s (provided s.line (thickness_at rung)))
@@ -76,12 +105,25 @@ pub record AnswerTo (s : Sheet) (bytes : List ℕ) : Type 0 where
 abbrev pub FirstUndecided : (ℕ → Verdict) → Type 0
 FirstUndecided v = (r : ℕ) × (r < rungs) × (v r ≡ Undecided) × InsufficientBelow v r
 
--- "refusals 17 and 18 come in their stated cases only": "all 31 rungs miss", "the first rung that doesn't miss is open" (01, "Sent back
--- because of the sheet")
+-- the stated case of 17: "all 31 rungs miss" (01, "Sent back because of the sheet"), in a pass: "The second pass can meet 17 and 18 as the
+-- first can." (02, N5)
+pub record Seventeen (s : Sheet) : Type 0 where
+  pub pass : Pass
+  pub reached : Reaches s pass
+  pub all_miss : InsufficientBelow (verdicts_by s (goal_in s pass)) rungs
+
+-- the stated case of 18
+pub data Eighteen (s : Sheet) : Type 0 where
+  -- "the first rung that doesn't miss is open" (01), in a pass
+  open_in : (pass : Pass) → Reaches s pass → FirstUndecided (verdicts_by s (goal_in s pass)) → Eighteen s
+  -- "If the check says too close, the sheet gets 18." (02, N5)
+  too_close : Checked s Undecided → Eighteen s
+
+-- "refusals 17 and 18 come in their stated cases only"
 pub record SheetDemand2 (sheet : List ℕ) : Type 0 where
   pub answered : (bytes : List ℕ) → response_to sheet ≡ complete bytes → AnswerTo (decoded sheet) bytes
-  pub seventeen : (response_to sheet ≡ refused 17) ↔ (NoneHolds (field_cases sheet) × InsufficientBelow (verdicts (decoded sheet)) rungs)
-  pub eighteen : (response_to sheet ≡ refused 18) ↔ (NoneHolds (field_cases sheet) × FirstUndecided (verdicts (decoded sheet)))
+  pub seventeen : (response_to sheet ≡ refused 17) ↔ (NoneHolds (field_cases sheet) × Seventeen (decoded sheet))
+  pub eighteen : (response_to sheet ≡ refused 18) ↔ (NoneHolds (field_cases sheet) × Eighteen (decoded sheet))
 
 -- the book after the filing of each sheet of a list, refused ones among them
 unfoldable pub filed_all : Layout → List ℕ → List (List ℕ) → List ℕ
@@ -123,13 +165,14 @@ pub record Demand2 : Type 0 where
 -- Demand 3: "For every answered sheet, every cutting of the logarithm's area that the paper allows, however fine, and every rung of the
 -- ladder: that rung equals the thickness we give exactly when it meets the exact equation on that cutting's under-sum and the rung below
 -- it, if there is one, misses it on that cutting's over-sum." "the thickness is bytes 2–3 of the answer, and both rungs are judged by the
--- sheet's own goal" (01, "Ladder and figures"). On a flat wall `provided_exactly` reads no sum: "there the same holds with the exact
+-- sheet's own goal" (01, "Ladder and figures"); after a second pass "the exact equation of demand 3 is the loss one of the second pass" (02,
+-- N5). On a flat wall `provided_exactly` reads no sum: "there the same holds with the exact
 -- equation alone judging both rungs".
 abbrev pub Demand3 : Type 0
 Demand3 =
     (sheet bytes : List ℕ) → response_to sheet ≡ complete bytes → (m : ℕ) → 1 ≤ m → (r : ℕ) → r < rungs →
     let s = decoded sheet in
-    let required = requirement_of s (goal_of s) in
+    let required = requirement_of s (deciding s) in
     (big_endian bytes 2 2 ≡ (thickness_at r).0) ↔
     (Meets required (provided_exactly (lower_sum m) s.line (thickness_at r)) ×
     ((r ≡ 0) ⊎ Misses required (provided_exactly (upper_sum m) s.line (thickness_at (r - 1)))))
@@ -162,7 +205,7 @@ Denominators =
     (sheet bytes : List ℕ) → response_to sheet ≡ complete bytes → (m : ℕ) → 1 ≤ m → (r : ℕ) →
     let s = decoded sheet in
     let k = thickness_at r in
-    (0 < difference s) × (0 < denominator (requirement_of s (goal_of s))) ×
+    (0 < difference s) × (0 < denominator (requirement_of s (deciding s))) ×
     (0 < (provided_exactly (lower_sum m) s.line k).den) × (0 < (provided_exactly (upper_sum m) s.line k).den) ×
     (0 < (surface_difference s.line (difference s) ((provided s.line k).lower over 1)).den) ×
     (0 < (surface_difference_exactly (lower_sum m) s k).den) × (0 < (surface_difference_exactly (upper_sum m) s k).den)

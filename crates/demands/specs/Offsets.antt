@@ -14,11 +14,11 @@ stands_at b offset =
     cond (ltb offset 2) (get_or b offset 0) (cond (eqb offset 6 || eqb offset 8) (signed (big_endian b offset 2)).0 (big_endian b offset 2))
 
 pub record Offsets : Type 0 where
-  -- the list of fields and ranges has every field but the line number, in the order of their offsets; the aim is in it for goals 1 and 5
-  -- only
+  -- the list of fields and ranges has every field but the line number, in the order of their offsets; the aim is in it for goals 1, 5
+  -- and 6 only
   pub order :
       (b : List ℕ) →
       map (λ (f : Field). f.offset) (fields (decoded b)) ≡
-      (0 ∷ 1 ∷ 4 ∷ 6 ∷ 8 ∷ 10 ∷ 12 ∷ 14 ∷ 16 ∷ 18 ∷ 20 ∷ cond (eqb (get_or b 0 0) 1 || eqb (get_or b 0 0) 5) (22 ∷ []) [])
+      (0 ∷ 1 ∷ 4 ∷ 6 ∷ 8 ∷ 10 ∷ 12 ∷ 14 ∷ 16 ∷ 18 ∷ 20 ∷ cond (eqb (get_or b 0 0) 1 || eqb (get_or b 0 0) 5 || eqb (get_or b 0 0) 6) (22 ∷ []) [])
   -- the value of each is what stands at its offset
   pub values : (b : List ℕ) (f : Field) → Memᴰ f (fields (decoded b)) → f.value ≡ stands_at b f.offset

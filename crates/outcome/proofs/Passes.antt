@@ -1,20 +1,19 @@
 -- How the passes over the ladder end, and what the definitions respond then.
 -- Assumes nothing.
-use mathlib.Core.Path.{◌≡◌, refl, ◌∙◌, sym, ap}
-use mathlib.Core.Bool.{Bool, true, false, cond, ◌&&◌, ◌||◌, and-true, and-false, or-true}
+use mathlib.Core.Path.{◌≡◌, refl, ◌∙◌, ap}
+use mathlib.Core.Bool.{Bool, true, false, cond, and-true, and-false, or-true}
 use mathlib.Core.List.{List}
 use Prim.Native.Nat.{ℕ, ◌<◌}
 use native.Mathlib.Omega.{arith}
 use lib.Dec.{ltb}
-use borrow.Author.Tests.{ltb-true, ltb-false, lt-ltb}
+use borrow.Author.Tests.{ltb-true, ltb-false}
 use Rattle.std.specs.Prelude.{Option, Some, None, Result, Ok, Err}
-use Rattle.lengths.specs.Ladder.{rungs, thickness_at}
+use Rattle.lengths.specs.Ladder.{rungs}
 use Rattle.refusals.specs.declared.Refusal.{Refusal}
 use Rattle.refusals.specs.declared.Refusal.TheVariants.{NoneSufficient, TooClose}
 use Rattle.refusals.specs.Numbers.{number_of}
 use Rattle.refusals.specs.Response.{Response, refused, complete, respond}
 use Rattle.requirement.specs.declared.Goal.{Goal}
-use Rattle.provision.specs.Provided.{provided}
 use Rattle.verdict.specs.declared.Verdict.{Verdict}
 use Rattle.verdict.specs.declared.Verdict.TheVariants.{Sufficient, Insufficient, Undecided}
 use Rattle.verdict.specs.declared.choice.Rung.{Rung}
@@ -22,7 +21,6 @@ use Rattle.verdict.specs.Verdict.{not_insufficient, is_sufficient, is_undecided}
 use Rattle.verdict.specs.Choice.{rung}
 use Rattle.verdict.proofs.FirstRung.{first_within, first_not_insufficient_lem}
 use Rattle.answer.specs.declared.Pass.{Pass}
-use Rattle.answer.specs.declared.Pass.TheVariants.{First, Second}
 use Rattle.sheet.specs.declared.fields.Sheet.{Sheet}
 use Rattle.sheet.specs.Sheet.{goal_of}
 use Rattle.sheet.specs.Search.{verdicts_by, first_by}
@@ -58,12 +56,6 @@ next_pass (Some Sufficient) e = (refl, cc)
 next_pass (Some Insufficient) e = (refl, cc)
 next_pass (Some Undecided) e = cc
 next_pass None e = (refl, cc)
-
-pub after_over : (c : Option Verdict) → pass_after c ≡ Second → c ≡ Some Insufficient
-after_over (Some Sufficient) e = cc
-after_over (Some Insufficient) e = refl
-after_over (Some Undecided) e = cc
-after_over None e = cc
 
 module _ (s : Sheet) where
   -- a pass found the rung r, or none

@@ -2,7 +2,7 @@
 -- Assumes nothing.
 use mathlib.Core.Path.{◌≡◌, refl}
 use mathlib.Core.Bool.{Bool, true, false, cond, ◌&&◌}
-use Prim.Native.Nat.{ℕ, ◌≤◌}
+use Prim.Native.Nat.{◌≤◌}
 use native.Mathlib.Omega.{arith}
 use borrow.Author.Tests.{eq-eqb}
 use Rattle.std.specs.Prelude.{Option, Some, None}
@@ -10,13 +10,17 @@ use Rattle.fractions.specs.declared.Bounds.{Bounds}
 use Rattle.lengths.specs.Ladder.{thickness_at}
 use Rattle.provision.specs.Provided.{provided}
 use Rattle.verdict.specs.declared.Verdict.{Verdict}
+use Rattle.verdict.specs.declared.Verdict.TheVariants.{Sufficient, Insufficient, Undecided}
+use Rattle.requirement.specs.Ranges.{GoalInRange}
 use Rattle.limits.specs.Limits.{loss_limit}
 use Rattle.limits.proofs.Size.{some_size, limit_size}
+use Rattle.answer.specs.declared.Pass.TheVariants.{Second}
 use Rattle.sheet.specs.declared.fields.Sheet.{Sheet}
 use Rattle.sheet.specs.Sheet.{goal_of}
 use Rattle.sheet.specs.Search.{first_by}
 use Rattle.sheet.specs.Checks.{loss_check}
-use Rattle.sheet.specs.Passes.{second_aim, succeeds, check_between}
+use Rattle.sheet.specs.Passes.{second_aim, goal_in, succeeds, check_between, pass_after, deciding}
+use Rattle.sheet.specs.Admitted.{Admitted}
 
 -- the loss check of the first pass's rung
 abbrev pub first_check : Sheet → Option Verdict
@@ -37,6 +41,13 @@ between s v = go s.limited (succeeds s (goal_of s)) refl refl
     go true false e f h = cc
     go false b e f h = cc
 
+-- the second pass comes after a check that says over
+pub after_over : (c : Option Verdict) → pass_after c ≡ Second → c ≡ Some Insufficient
+after_over (Some Sufficient) e = cc
+after_over (Some Insufficient) e = refl
+after_over (Some Undecided) e = cc
+after_over None e = cc
+
 -- a limit is printed, as every check tells
 abbrev pub Printed : Sheet → Type 0
 Printed s = ¬ (loss_limit s.service s.temperature ≡ 0)
@@ -47,3 +58,13 @@ printed_for s p v h e = let none : None ≡ Some v = rw (eq-eqb _ _ e) at h in c
 
 pub second_aim_some : (s : Sheet) → Printed s → 1 ≤ second_aim s
 second_aim_some s some = omega (arith, some_size (limit_size s.service s.temperature) some)
+
+-- the goal that decides an admitted sheet is in range
+pub deciding_in_range : (s : Sheet) → Admitted s → GoalInRange (deciding s)
+deciding_in_range s in_range = go (check_between s) refl
+  where
+    go : (c : Option Verdict) → check_between s ≡ c → GoalInRange (goal_in s (pass_after c))
+    go (Some Sufficient) e = in_range.goal
+    go (Some Insufficient) e = second_aim_some s (printed_for s _ _ (between s _ e).says)
+    go (Some Undecided) e = in_range.goal
+    go None e = in_range.goal

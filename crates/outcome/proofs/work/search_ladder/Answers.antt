@@ -4,8 +4,9 @@ use Rattle.std.proofs.lemmas.Result.{err_from_is_err_and}
 use Rattle.answer.specs.declared.Pass.TheVariants.{First}
 use Rattle.sheet.specs.Sheet.{goal_of}
 use Rattle.sheet.specs.Passes.{check_between, deciding_pass}
+use Rattle.sheet.proofs.Passes.{after_over}
 use Rattle.outcome.specs.Pass.{pass_by}
-use Rattle.outcome.proofs.Passes.{next, next_refused, next_pass, after_over, unchecked, checked, refused_by, Given, given, closed}
+use Rattle.outcome.proofs.Passes.{next, next_refused, next_pass, unchecked, checked, refused_by, Given, given, closed}
 use Rattle.outcome.proofs.work.search_ladder.Goals.{After-next_pass, In-First}
 use Rattle.outcome.proofs.work.search_ladder.Goals as goal
 

@@ -1,8 +1,7 @@
 -- The loss check is over, so the second pass decides, and a limit is printed.
-use Rattle.std.proofs.Common.{◌≡◌, ◌≤◌, sym, ◌∙◌, arith, false}
+use Rattle.std.proofs.Common.{sym}
 use borrow.Author.Tests.{ne_eqb}
 use Rattle.std.proofs.lemmas.Result.{err_from_is_err_and}
-use Rattle.sheet.specs.Passes.{check_between, too_close}
 use Rattle.sheet.proofs.Passes.{between, Printed, printed_for, second_aim_some}
 use Rattle.answer.specs.declared.Pass.TheVariants.{Second}
 use Rattle.outcome.proofs.Passes.{refused_by, given}
