@@ -37,7 +37,7 @@ use Rattle.demands.specs.Demands.Eighteen.{open_in, too_close as too_near}
 use Rattle.demands.proofs.Passes.{neither, either, close, found_first, check_is, checked, reaches, decides, decided, none_found, open_first, open_found}
 
 -- none of two lists of cases holds
-none_parts : (cs ds : List Case) → NoneHolds (cs ++ ds) → NoneHolds cs × NoneHolds ds
+pub none_parts : (cs ds : List Case) → NoneHolds (cs ++ ds) → NoneHolds cs × NoneHolds ds
 unfolding NoneHolds
 none_parts [] ds none = (tt, none)
 none_parts (c ∷ cs) ds none = let rest = none_parts cs ds none.1 in ((none.0, rest.0), rest.1)

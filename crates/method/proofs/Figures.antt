@@ -15,13 +15,15 @@ use Rattle.sheet.specs.Sheet.{decoded}
 use Rattle.sheet.specs.Fields.{first_fault}
 use Rattle.limits.specs.Limits.{neighbours, loss_limit}
 use Rattle.answer.specs.Answer.{encoded}
-use Rattle.sheet.specs.Answer.{loss_check, surface_check, surface_bound, answer_of}
+use Rattle.sheet.specs.Checks.{loss_check, surface_check}
+use Rattle.sheet.specs.Passes.{check_between}
+use Rattle.sheet.specs.Answer.{surface_bound, answer_of}
 use Rattle.worked.proofs.Examples.{low, high}
 use Rattle.book.specs.Refusals.{same_bytes}
 use Rattle.method.specs.Method.{Cylinder, Hotter, Between, FlatWall, BetweenRows, ColdLine, ColdWall, Entry, Method}
 
 the_cylinder : Cylinder
-unfolding summed lower_step upper_step least insulation film insulation_bounds film_bounds provided requirement enclosing first_not_insufficient big_endian bytes_of decoded neighbours loss_limit loss_check surface_check surface_bound encoded answer_of first_fault respond
+unfolding summed lower_step upper_step least insulation film insulation_bounds film_bounds provided requirement enclosing first_not_insufficient big_endian bytes_of decoded neighbours loss_limit loss_check surface_check check_between surface_bound encoded answer_of first_fault respond
 the_cylinder =
     record {
       signed = refl;
@@ -48,7 +50,7 @@ the_cylinder =
     }
 
 the_same_hotter : Hotter
-unfolding summed lower_step upper_step least insulation film insulation_bounds film_bounds provided requirement enclosing first_not_insufficient big_endian bytes_of decoded neighbours loss_limit flat_map loss_check surface_check surface_bound encoded answer_of first_fault respond
+unfolding summed lower_step upper_step least insulation film insulation_bounds film_bounds provided requirement enclosing first_not_insufficient big_endian bytes_of decoded neighbours loss_limit flat_map loss_check surface_check check_between surface_bound encoded answer_of first_fault respond
 the_same_hotter =
     record {
       required = refl;
@@ -77,7 +79,7 @@ between_millimetres =
     }
 
 the_flat_wall : FlatWall
-unfolding summed cut_sum lower_step upper_step least insulation film insulation_bounds film_bounds provided requirement enclosing first_not_insufficient big_endian bytes_of decoded neighbours loss_limit loss_check surface_check surface_bound encoded answer_of first_fault respond
+unfolding summed cut_sum lower_step upper_step least insulation film insulation_bounds film_bounds provided requirement enclosing first_not_insufficient big_endian bytes_of decoded neighbours loss_limit loss_check surface_check check_between surface_bound encoded answer_of first_fault respond
 the_flat_wall =
     record {
       at_0 = refl;
@@ -93,7 +95,7 @@ the_flat_wall =
     }
 
 between_rows : BetweenRows
-unfolding summed lower_step upper_step least insulation film insulation_bounds film_bounds provided requirement enclosing first_not_insufficient big_endian bytes_of decoded neighbours loss_limit flat_map loss_check surface_check surface_bound encoded answer_of first_fault respond
+unfolding summed lower_step upper_step least insulation film insulation_bounds film_bounds provided requirement enclosing first_not_insufficient big_endian bytes_of decoded neighbours loss_limit flat_map loss_check surface_check check_between surface_bound encoded answer_of first_fault respond
 between_rows =
     record {
       required = refl;
@@ -111,16 +113,16 @@ between_rows =
     }
 
 the_cold_line : ColdLine
-unfolding summed lower_step upper_step least insulation film insulation_bounds film_bounds provided requirement enclosing first_not_insufficient big_endian bytes_of decoded neighbours loss_limit loss_check surface_check surface_bound encoded answer_of first_fault respond
+unfolding summed lower_step upper_step least insulation film insulation_bounds film_bounds provided requirement enclosing first_not_insufficient big_endian bytes_of decoded neighbours loss_limit loss_check surface_check check_between surface_bound encoded answer_of first_fault respond
 the_cold_line = record { difference = refl; required = rw (low, high); checks = (refl, refl); bound = refl; answer = rw (low, high) }
 
 the_cold_wall : ColdWall
-unfolding summed lower_step upper_step least insulation film insulation_bounds film_bounds provided requirement enclosing first_not_insufficient big_endian bytes_of decoded neighbours loss_limit loss_check surface_check surface_bound encoded answer_of first_fault respond
+unfolding summed lower_step upper_step least insulation film insulation_bounds film_bounds provided requirement enclosing first_not_insufficient big_endian bytes_of decoded neighbours loss_limit loss_check surface_check check_between surface_bound encoded answer_of first_fault respond
 the_cold_wall =
     record { temperatures = (refl, refl, refl); differences = (refl, refl); required = refl; at_20 = refl; at_30 = refl; bound = refl; answer = refl }
 
 an_entry : Entry
-unfolding summed lower_step upper_step least insulation film insulation_bounds film_bounds provided requirement enclosing first_not_insufficient big_endian bytes_of decoded neighbours loss_limit loss_check surface_check surface_bound encoded answer_of first_fault respond same_bytes
+unfolding summed lower_step upper_step least insulation film insulation_bounds film_bounds provided requirement enclosing first_not_insufficient big_endian bytes_of decoded neighbours loss_limit loss_check surface_check check_between surface_bound encoded answer_of first_fault respond same_bytes
 an_entry = record { size = refl; offsets = (refl, refl, refl); sizes = (refl, refl); read = refl }
 
 pub method : Method

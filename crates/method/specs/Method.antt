@@ -18,7 +18,8 @@ use Rattle.big_endian.specs.Bytes.{bytes_of}
 use Rattle.limits.specs.Limits.{row, table, limit_of, neighbours, interpolated, loss_limit, surface_limit}
 use Rattle.limits.specs.FlatTable.{flat_table, place}
 use Rattle.sheet.specs.Sheet.{decoded, difference, surface_aim, goal_of}
-use Rattle.sheet.specs.Search.{required_of, chosen}
+use Rattle.sheet.specs.Search.{required_of}
+use Rattle.sheet.specs.Passes.{chosen}
 use Rattle.sheet.specs.Answer.{surface_bound}
 use Rattle.sheet.specs.Refusals.{response_to}
 use Rattle.worked.specs.Sheets.{sheet_f, sheet_g}

@@ -20,9 +20,12 @@ use Rattle.std.specs.Prelude.{None}
 use Rattle.answer.specs.Answer.{loss_code, check_code}
 use Rattle.sheet.specs.declared.fields.Sheet.{Sheet}
 use Rattle.sheet.specs.Sheet.{decoded, goal_of}
-use Rattle.sheet.specs.Search.{requirement_of, chosen}
-use Rattle.sheet.specs.Answer.{loss_check, surface_check, surface_bound}
+use Rattle.sheet.specs.Search.{requirement_of}
+use Rattle.sheet.specs.Passes.{chosen}
+use Rattle.sheet.specs.Checks.{loss_check, surface_check}
+use Rattle.sheet.specs.Answer.{surface_bound}
 use Rattle.sheet.specs.Admitted.{Admitted}
+use Rattle.sheet.proofs.Passes.{no_check}
 use Rattle.demands.specs.Demands.{AnswerTo}
 use Rattle.demands.proofs.Sheets.{answered, sheet_demand_2}
 use Rattle.promises.specs.ColdLines.{ColdAnswer, Exchanged, ColdLines}
@@ -63,7 +66,8 @@ module _ (sheet bytes : List ℕ) (h : ColdAnswer sheet bytes) where
 
 exchanged : (cold hot : Sheet) → Exchanged cold hot → (requirement_of cold (goal_of cold) ≡ requirement_of hot (goal_of hot)) × (chosen cold ≡ chosen hot)
 exchanged cold hot e =
-    rw (e.inward, e.outward, e.economy.0, e.economy.1, e.temperatures.0, e.temperatures.1, e.same_line, e.same_terms) (refl, refl)
+    rw (no_check cold e.one_pass.0, no_check hot e.one_pass.1)
+    (rw (e.inward, e.outward, e.economy.0, e.economy.1, e.temperatures.0, e.temperatures.1, e.same_line, e.same_terms) (refl, refl))
 
 pub cold_lines : ColdLines
 cold_lines = record { checks = cold_checks; bound_between = cold_bound; as_on_steam = exchanged }

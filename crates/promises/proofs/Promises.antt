@@ -5,6 +5,7 @@ use Rattle.promises.specs.Promises.{Promises}
 use Rattle.promises.proofs.Shares.{shares}
 use Rattle.promises.proofs.Limits.{limits}
 use Rattle.promises.proofs.ColdLines.{cold_lines}
+use Rattle.promises.proofs.WithinLimit.{within_limit}
 
 pub promises : Promises
-promises = record { shares = shares; limits = limits; flat_list = placement; cold_lines = cold_lines }
+promises = record { shares = shares; limits = limits; flat_list = placement; cold_lines = cold_lines; within_limit = within_limit }

@@ -1,6 +1,6 @@
 -- What is promised of cold lines, beside the demands and `SurfaceBound`, which speak of every goal. 02, N4.
 -- Assumes nothing.
-use Rattle.std.specs.Prelude.{ℕ, ◌≤◌, ◌≡◌, ◌⊎◌, List, length, get_or}
+use Rattle.std.specs.Prelude.{ℕ, ◌≤◌, ◌≡◌, ◌⊎◌, false, List, length, get_or}
 use Rattle.temperatures.specs.Temperature.{decoded as signed}
 use Rattle.heat_flow.specs.declared.HeatFlow.TheVariants.{Outward, Inward}
 use Rattle.big_endian.specs.Bytes.{big_endian}
@@ -8,7 +8,8 @@ use Rattle.refusals.specs.Response.{complete}
 use Rattle.sheet.specs.declared.fields.GoalCode.TheVariants.{ForEconomy}
 use Rattle.sheet.specs.declared.fields.Sheet.{Sheet}
 use Rattle.sheet.specs.Sheet.{decoded, goal_of}
-use Rattle.sheet.specs.Search.{requirement_of, chosen}
+use Rattle.sheet.specs.Search.{requirement_of}
+use Rattle.sheet.specs.Passes.{chosen}
 use Rattle.sheet.specs.Refusals.{response_to}
 
 -- the bytes of a sheet of goal 4 or 5, and those of its answer
@@ -16,11 +17,12 @@ pub record ColdAnswer (sheet bytes : List ℕ) : Type 0 where
   pub cold : (get_or sheet 0 0 ≡ 4) ⊎ (get_or sheet 0 0 ≡ 5)
   pub answered : response_to sheet ≡ complete bytes
 
--- a cold economy sheet and the hot one with t and ta exchanged
+-- a cold economy sheet and the hot one with t and ta exchanged; neither is of goal 6
 pub record Exchanged (cold hot : Sheet) : Type 0 where
   pub inward : cold.flow ≡ Inward
   pub outward : hot.flow ≡ Outward
   pub economy : (cold.goal ≡ ForEconomy) × (hot.goal ≡ ForEconomy)
+  pub one_pass : (cold.limited ≡ false) × (hot.limited ≡ false)
   pub temperatures : (cold.temperature ≡ hot.ambient) × (cold.ambient ≡ hot.temperature)
   pub same_line : cold.line ≡ hot.line
   pub same_terms : cold.economy ≡ hot.economy

@@ -4,6 +4,7 @@ use Rattle.limits.specs.FlatTable.{Placement}
 use Rattle.promises.specs.Shares.{Shares}
 use Rattle.promises.specs.Limits.{Limits}
 use Rattle.promises.specs.ColdLines.{ColdLines}
+use Rattle.promises.specs.WithinLimit.{WithinLimit}
 
 pub record Promises : Type 0 where
   -- N1, yearly share from interest and years
@@ -14,3 +15,5 @@ pub record Promises : Type 0 where
   pub flat_list : Placement
   -- N4, cold lines
   pub cold_lines : ColdLines
+  -- N5, economy that respects the loss limit
+  pub within_limit : WithinLimit

@@ -1,2 +1,3 @@
 pub mod Requirements
 pub mod Sizes
+pub mod Losses

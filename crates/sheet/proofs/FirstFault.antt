@@ -52,3 +52,12 @@ module _ (n : ℕ) (f : Field) (fs : List Field) (none : is_some (first_fault n 
   pub behind : ¬ (n ≡ number_of f.refusal) → is_some (first_fault n fs) ≡ false
   unfolding first_fault
   behind other = rw (ne_eqb n (number_of f.refusal) other) at none
+
+-- No fault in a list: none in its first part.
+found_or : (o p : Option Field) → is_some (option_map (λ (f : Field). f.offset) (option_or o p)) ≡ false → is_some (option_map (λ (f : Field). f.offset) o) ≡ false
+found_or None p e = refl
+found_or (Some f) p e = e
+
+pub none_before : (n : ℕ) (fs gs : List Field) → is_some (first_fault n (fs ++ gs)) ≡ false → is_some (first_fault n fs) ≡ false
+unfolding first_fault
+none_before n fs gs e = found_or _ _ (rw find-append at e)

@@ -1,6 +1,6 @@
 -- What it means that there is a loss check between the passes.
 -- Assumes nothing.
-use mathlib.Core.Path.{◌≡◌, refl}
+use mathlib.Core.Path.{◌≡◌, refl, ap}
 use mathlib.Core.Bool.{Bool, true, false, cond, ◌&&◌}
 use Prim.Native.Nat.{◌≤◌}
 use native.Mathlib.Omega.{arith}
@@ -40,6 +40,11 @@ between s v = go s.limited (succeeds s (goal_of s)) refl refl
     go true true e f h = record { limited = e; succeeded = f; says = h }
     go true false e f h = cc
     go false b e f h = cc
+
+-- a goal that does not have to respect the limit has no such check, and so its first pass decides
+pub no_check : (s : Sheet) → s.limited ≡ false → check_between s ≡ None
+unfolding check_between
+no_check s e = ap (λ (b : Bool). cond (b && succeeds s (goal_of s)) (first_check s) None) e
 
 -- the second pass comes after a check that says over
 pub after_over : (c : Option Verdict) → pass_after c ≡ Second → c ≡ Some Insufficient

@@ -14,13 +14,15 @@ use Rattle.answer.specs.Answer.{encoded}
 use Rattle.refusals.specs.Response.{respond}
 use Rattle.sheet.specs.Sheet.{decoded}
 use Rattle.sheet.specs.Fields.{first_fault}
-use Rattle.sheet.specs.Answer.{loss_check, surface_check, surface_bound, answer_of}
+use Rattle.sheet.specs.Checks.{loss_check, surface_check}
+use Rattle.sheet.specs.Passes.{check_between}
+use Rattle.sheet.specs.Answer.{surface_bound, answer_of}
 use Rattle.book.specs.Book.{new_book}
 use Rattle.book.specs.Refusals.{same_bytes}
 use Rattle.worked.specs.Book.{WorkedBook}
 
 pub worked_book : WorkedBook
-unfolding overlay lower_step upper_step least insulation film insulation_bounds film_bounds provided requirement enclosing first_not_insufficient big_endian bytes_of decoded neighbours loss_limit loss_check surface_check surface_bound encoded answer_of first_fault respond new_book same_bytes
+unfolding overlay lower_step upper_step least insulation film insulation_bounds film_bounds provided requirement enclosing first_not_insufficient big_endian bytes_of decoded neighbours loss_limit loss_check surface_check check_between surface_bound encoded answer_of first_fault respond new_book same_bytes
 worked_book =
     record {
       size = λ c. omega arith;

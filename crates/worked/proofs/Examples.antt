@@ -19,7 +19,9 @@ use Rattle.answer.specs.Answer.{encoded}
 use Rattle.refusals.specs.Response.{respond}
 use Rattle.sheet.specs.Sheet.{decoded}
 use Rattle.sheet.specs.Fields.{first_fault}
-use Rattle.sheet.specs.Answer.{loss_check, surface_check, surface_bound, answer_of}
+use Rattle.sheet.specs.Checks.{loss_check, surface_check}
+use Rattle.sheet.specs.Passes.{check_between}
+use Rattle.sheet.specs.Answer.{surface_bound, answer_of}
 use Rattle.worked.specs.Examples.{Examples, ColdExamples}
 
 -- the economy requirement of both sheets: 14,402,025,000 × 7,500 × 333 × 2,880 × 137 / (1,600 × 2,296) under the root
@@ -35,7 +37,7 @@ high =
     (λ x lt. lt_of_le_of_lt (square_le {x = x} {y = 62_154_864} radicand.den (omega arith)) (omega arith)))
 
 pub examples : Examples
-unfolding summed lower_step upper_step least insulation film insulation_bounds film_bounds provided requirement enclosing first_not_insufficient big_endian bytes_of decoded neighbours loss_limit loss_check surface_check surface_bound encoded answer_of first_fault respond
+unfolding summed lower_step upper_step least insulation film insulation_bounds film_bounds provided requirement enclosing first_not_insufficient big_endian bytes_of decoded neighbours loss_limit loss_check surface_check check_between surface_bound encoded answer_of first_fault respond
 examples =
     record {
       economy_270 = (rw (low, high), rw (low, high));
@@ -51,7 +53,7 @@ examples =
     }
 
 pub cold_examples : ColdExamples
-unfolding summed lower_step upper_step least insulation film insulation_bounds film_bounds provided requirement enclosing first_not_insufficient big_endian bytes_of decoded neighbours loss_limit loss_check surface_check surface_bound encoded answer_of first_fault respond
+unfolding summed lower_step upper_step least insulation film insulation_bounds film_bounds provided requirement enclosing first_not_insufficient big_endian bytes_of decoded neighbours loss_limit loss_check surface_check check_between surface_bound encoded answer_of first_fault respond
 cold_examples =
     record {
       economy_320 = rw (low, high);

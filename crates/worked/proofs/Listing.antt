@@ -12,12 +12,14 @@ use Rattle.answer.specs.Answer.{encoded}
 use Rattle.refusals.specs.Response.{respond}
 use Rattle.sheet.specs.Sheet.{decoded}
 use Rattle.sheet.specs.Fields.{first_fault}
-use Rattle.sheet.specs.Answer.{loss_check, surface_check, surface_bound, answer_of}
+use Rattle.sheet.specs.Checks.{loss_check, surface_check}
+use Rattle.sheet.specs.Passes.{check_between}
+use Rattle.sheet.specs.Answer.{surface_bound, answer_of}
 use Rattle.text.specs.Text.{decimal_up_to, decimal, concatenated}
 use Rattle.listing_text.specs.Line.{line_of}
 use Rattle.worked.specs.Listing.{WorkedListing}
 use Rattle.worked.proofs.Cut.{listing_cut}
 
 pub worked_listing : WorkedListing
-unfolding lower_step upper_step least insulation film insulation_bounds film_bounds provided requirement enclosing first_not_insufficient big_endian bytes_of decoded neighbours loss_limit loss_check surface_check surface_bound encoded answer_of first_fault respond decimal_up_to decimal concatenated line_of
+unfolding lower_step upper_step least insulation film insulation_bounds film_bounds provided requirement enclosing first_not_insufficient big_endian bytes_of decoded neighbours loss_limit loss_check surface_check check_between surface_bound encoded answer_of first_fault respond decimal_up_to decimal concatenated line_of
 worked_listing = record { f_then_g = refl; empty = refl; in_blocks = listing_cut }

@@ -22,7 +22,9 @@ use Rattle.refusals.specs.Response.{refused, respond}
 use Rattle.refusals.proofs.Response.{first_at}
 use Rattle.sheet.specs.Sheet.{decoded, surface_aim}
 use Rattle.sheet.specs.Fields.{first_fault}
-use Rattle.sheet.specs.Answer.{loss_check, surface_check, surface_bound, answer_of, answer}
+use Rattle.sheet.specs.Checks.{loss_check, surface_check}
+use Rattle.sheet.specs.Passes.{check_between}
+use Rattle.sheet.specs.Answer.{surface_bound, answer_of, answer}
 use Rattle.sheet.specs.Refusals.{aim_refused, field_cases, cases, response_to}
 use Rattle.worked.specs.Sheets.{Worked}
 
@@ -39,7 +41,7 @@ aim_at_t : (sheet : List ℕ) → let s = decoded sheet in s.code ≡ 3 → surf
 aim_at_t sheet goal aim earlier = first_at 5 (cases sheet) (answer sheet) earlier (aim_refused_lem sheet goal aim)
 
 pub worked : Worked
-unfolding lower_step upper_step least insulation film insulation_bounds film_bounds provided requirement enclosing first_not_insufficient big_endian bytes_of decoded neighbours loss_limit loss_check surface_check surface_bound encoded answer_of first_fault respond
+unfolding lower_step upper_step least insulation film insulation_bounds film_bounds provided requirement enclosing first_not_insufficient big_endian bytes_of decoded neighbours loss_limit loss_check surface_check check_between surface_bound encoded answer_of first_fault respond
 worked =
     record {
       p1 = refl;
