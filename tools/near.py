@@ -6,8 +6,8 @@ tools/vectors.py search, and tools/vectors.py compares the answers with them.
 from itertools import accumulate
 from math import gcd
 
-from sheet import (COLD_GOALS, ECONOMY_GOALS, MEETS, MISSES, OPEN, SURFACE_GOALS, direction, judge, loss_limit, ratio, root,
-                   sheet_of, up)
+from sheet import (COLD_GOALS, ECONOMY_GOALS, LIMITED, MEETS, MISSES, OPEN, SURFACE_GOALS, direction, judge, loss_limit, ratio,
+                   root, sheet_of, up)
 
 UNDER = [0, *accumulate(2 * 10**12 // (2 * i + 1) for i in range(100, 16_000))]
 OVER = [0, *accumulate(up(10**12 * (2 * i + 1), 2 * i * (i + 1)) for i in range(100, 16_000))]
@@ -81,7 +81,7 @@ def surface_need(x, aim):
 
 
 def need(x):
-    """Low need and high need."""
+    """Low need and high need; of goal 6 the first pass's."""
     if x["goal"] in ECONOMY_GOALS:
         n, d = economy_square(x)
         return root(n * x["f"], d)
@@ -94,7 +94,7 @@ def verdict(x, k):
 
 
 def thickness(x):
-    """The first thickness that doesn't miss, with its verdict; or None."""
+    """The first thickness that doesn't miss, with its verdict; or None. Of goal 6 it is the first pass's."""
     required = need(x)
     return next(((k, v) for k in range(0, 301, 10) if (v := judge(have(x, k), required)) != MISSES), None)
 
@@ -114,6 +114,31 @@ def surface_check(x, k):
     """The surface check of a hot sheet of k mm: 0 within, 1 over, 2 too close."""
     limit = surface_limit(x)
     return MEETS if x["t"] <= limit else judge(have(x, k), ratio(*surface_need(x, limit)))
+
+
+def second_aim(x):
+    """The loss aim of goal 6's second pass: the limit less its tenth part, which is rounded up."""
+    limit = loss_limit(x["service"], x["t"])
+    return limit - up(limit, 10)
+
+
+def by_loss(x, aim):
+    """The fields of x under goal 2 with that aim."""
+    return {**x, "goal": 2, "f": 0, "tau": 0, "P": 0, "S": 0, "aim": aim}
+
+
+def given(x):
+    """The thickness of the answer, and 1 where goal 6's second pass gives it, 0 elsewhere; or refusal 17 or 18."""
+    k, found = thickness(x) or (None, MISSES)
+    if found == MISSES:
+        return 17
+    check = loss_check(x, k) if found == MEETS and x["goal"] == LIMITED else found
+    if check == OPEN:
+        return 18
+    if check == MISSES:
+        again = given(by_loss(x, second_aim(x)))
+        return again if isinstance(again, int) else (again[0], 1)
+    return k, 0
 
 
 def lever(x):
@@ -146,7 +171,7 @@ def aimed(x, h):
 
 
 def between(r, x, k):
-    """The sheet aimed so that k mm are the first to meet; or None where that fails."""
+    """The sheet aimed so that k mm are the first to meet, in the first pass of goal 6; or None where that fails."""
     top = have(x, k)[0]
     bottom = have(x, k - 10)[1] + 1 if k else 1
     y = aimed(x, r.randint(bottom, top))
@@ -154,10 +179,10 @@ def between(r, x, k):
 
 
 def chosen(r, goal, flat, k, **fixed):
-    """A sheet whose thickness is k mm."""
+    """A sheet whose thickness is k mm; under goal 6 by the first pass."""
     while True:
         y = between(r, fields(r, goal, flat, **fixed), k)
-        if y:
+        if y and given(y) == (k, 0):
             return y
 
 
@@ -211,8 +236,8 @@ def open_at(r, goal, flat, k, **fixed):
 
 
 def edge(r, goal, flat, k, side, by, **fixed):
-    """A sheet, goal 1, 2 or 5, at an edge of what is open at k mm: high need is 0 or 1 nm above under-have (side 0: it meets, it
-    is open), or low need above over-have (side 1: it is open, it misses)."""
+    """A sheet, goal 1, 2, 5 or 6, at an edge of what is open at k mm: high need is 0 or 1 nm above under-have (side 0: it meets,
+    it is open), or low need above over-have (side 1: it is open, it misses)."""
     result = [[MEETS, OPEN], [OPEN, MISSES]][side][by]
     while True:
         x = fields(r, goal, flat, **{"L": r.randint(1, 100), "alpha": r.randint(5_000, 10_000), **fixed})
@@ -223,16 +248,22 @@ def edge(r, goal, flat, k, side, by, **fixed):
                     return z
 
 
+def at_loss(x, k, loss, by, wanted):
+    """The sheets x with a surface coefficient by which k mm lose about so many tenths of W/m² over a loss; wanted: verdicts at that
+    loss and beside it."""
+    return [y for y in fitted(x, k, ratio(*loss_need(x, loss + by))[0])
+            if all(judge(have(y, k), ratio(*loss_need(y, loss + other))) == result for other, result in wanted.items())]
+
+
 def losing(r, goal, flat, k, by, wanted, **fixed):
     """A hot sheet of k mm that loses about so many tenths of W/m² over the limit; wanted: verdicts at the limit and beside it."""
     while True:
         x = fields(r, goal, flat, **fixed)
         limit = loss_limit(x["service"], x["t"])
-        for y in fitted(x, k, ratio(*loss_need(x, limit + by))[0]) if limit else []:
-            if all(judge(have(y, k), ratio(*loss_need(y, limit + other))) == result for other, result in wanted.items()):
-                z = between(r, y, k)
-                if z:
-                    return z
+        for y in at_loss(x, k, limit, by, wanted) if limit else []:
+            z = between(r, y, k)
+            if z:
+                return z
 
 
 def close_loss(r, goal, flat, k, **fixed):
@@ -250,8 +281,9 @@ def over_loss(r, goal, flat, k, **fixed):
     return losing(r, goal, flat, k, 1, {0: MISSES, 1: MEETS}, **fixed)
 
 
-def close_surface(r, goal, flat, k, **fixed):
-    """A hot sheet of k mm, k above 0, that is too close to the surface limit; on a flat wall have equals need there."""
+def close_surface(r, goal, flat, k, first=None, **fixed):
+    """A hot sheet of k mm, k above 0, that is too close to the surface limit; on a flat wall have equals need there. Where a first
+    thickness is given, goal 6's second pass gives the k mm."""
     while True:
         x = fields(r, goal, flat, **fixed)
         limit = surface_limit(x)
@@ -261,6 +293,76 @@ def close_surface(r, goal, flat, k, **fixed):
         else:
             tries = fitted_surface(x, k, limit) if x["t"] > limit else []
         for y in tries:
-            z = between(r, y, k) if judge(have(y, k), ratio(*surface_need(y, limit))) == OPEN else None
+            if judge(have(y, k), ratio(*surface_need(y, limit))) == OPEN:
+                z = between(r, y, k) if first is None else over_first(r, y, first)
+                if z and given(z) == (k, int(first is not None)):
+                    return z
+
+
+def limited(r, flat, check, **fixed):
+    """An answered sheet of goal 6 whose first pass gives up to 100 mm, with that loss check."""
+    while True:
+        x = between(r, fields(r, LIMITED, flat, **fixed), 10 * r.randint(0, 10))
+        if x and loss_check(x, thickness(x)[0]) == check and not isinstance(given(x), int):
+            return x
+
+
+def over_first(r, y, first):
+    """The sheet y of goal 6 with a heat price by which its first pass gives that thickness, over the limit; or None."""
+    return between(r, y, first) if loss_check(y, first) == MISSES else None
+
+
+def second_pass(r, flat, first, k, by, wanted, **fixed):
+    """A sheet of goal 6 whose first pass gives the first of two thicknesses, over the limit. The second, k mm, loses about so many
+    tenths of W/m² over what the second pass aims at; wanted: verdicts at that aim and beside it."""
+    while True:
+        x = fields(r, LIMITED, flat, **fixed)
+        for y in at_loss(x, k, second_aim(x), by, wanted) if loss_limit(x["service"], x["t"]) else []:
+            z = over_first(r, y, first)
+            if z:
+                return z
+
+
+def second_met(r, flat, first, k, **fixed):
+    """The same where k mm meet in the second pass and would miss with an aim 0.1 W/m² lower."""
+    return second_pass(r, flat, first, k, 0, {0: MEETS, -1: MISSES}, **fixed)
+
+
+def second_missed(r, flat, first, k, **fixed):
+    """The same where k mm miss in the second pass and would meet with an aim 0.1 W/m² higher."""
+    return second_pass(r, flat, first, k, 1, {0: MISSES, 1: MEETS}, **fixed)
+
+
+def second_open(r, flat, first, k, **fixed):
+    """The same where k mm are open in the second pass."""
+    return second_pass(r, flat, first, k, 0, {0: OPEN}, **fixed)
+
+
+def loss_edge(x, k, loss, side, by):
+    """The sheets x with a surface coefficient by which k mm are at an edge of what is open at a loss; side and by as for an edge."""
+    required = ratio(*loss_need(x, loss))
+    result = [[MEETS, OPEN], [OPEN, MISSES]][side][by]
+    return [y for y in fitted(x, k, required[0] + layer(x, k)[0] - layer(x, k)[side])
+            if required[1 - side] - have(y, k)[side] == by and judge(have(y, k), required) == result]
+
+
+def check_edge(r, flat, k, side, by, **fixed):
+    """A sheet of goal 6 whose first pass gives k mm, at an edge of what is too close to the limit."""
+    while True:
+        x = fields(r, LIMITED, flat, **fixed)
+        limit = loss_limit(x["service"], x["t"])
+        for y in loss_edge(x, k, limit, side, by) if limit else []:
+            z = between(r, y, k)
+            if z:
+                return z
+
+
+def second_edge(r, flat, first, k, side, by, **fixed):
+    """A sheet of goal 6 whose first pass gives the first of two thicknesses, over the limit. The second, k mm, is at an edge of what is
+    open in the second pass."""
+    while True:
+        x = fields(r, LIMITED, flat, **fixed)
+        for y in loss_edge(x, k, second_aim(x), side, by) if loss_limit(x["service"], x["t"]) else []:
+            z = over_first(r, y, first)
             if z:
                 return z

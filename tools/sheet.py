@@ -4,7 +4,8 @@
     python3 tools/sheet.py goal service D t ta L alpha f tau P S aim
 
 prints the eight bytes of the answer, or the word refused and the refusal's number. The goals are 1 economy, 2 loss, 3 surface,
-4 cold surface and 5 cold economy. t, ta and a surface aim may be negative. A number that its field cannot hold stops the script.
+4 cold surface, 5 cold economy and 6 economy that respects the loss limit. t, ta and a surface aim may be negative. A number that
+its field cannot hold stops the script.
 """
 import sys
 from fractions import Fraction
@@ -14,7 +15,8 @@ YEAR_ROUND = [58, 93, 116, 140, 163, 186, 209, 227, 244, 262, 279, 296, 314]
 SEASONAL = [116, 163, 203, 244, 273, 296, 308, 314]
 MEETS, MISSES, OPEN = 0, 1, 2
 NAMES = "goal service line D t ta L alpha f tau P S aim".split()
-GOALS, HOT_GOALS, COLD_GOALS, ECONOMY_GOALS, SURFACE_GOALS = (1, 2, 3, 4, 5), (1, 2, 3), (4, 5), (1, 5), (3, 4)
+GOALS, HOT_GOALS, COLD_GOALS, ECONOMY_GOALS, SURFACE_GOALS = (1, 2, 3, 4, 5, 6), (1, 2, 3, 6), (4, 5), (1, 5, 6), (3, 4)
+LIMITED = 6  # economy that respects the loss limit
 
 
 def up(n, d):
@@ -122,6 +124,16 @@ def fault(sheet):
     return None
 
 
+def search(D, L, alpha, need):
+    """The first thickness that doesn't miss, with its have, if it meets; or the refusal's number."""
+    for k in range(0, 301, 10):
+        h = have(D, L, alpha, k)
+        verdict = judge(h, need)
+        if verdict != MISSES:
+            return (k, h) if verdict == MEETS else 18
+    return 17
+
+
 def answer(sheet):
     """The refusal's number, or the eight bytes."""
     refused = fault(sheet)
@@ -136,24 +148,25 @@ def answer(sheet):
         need = root((14_402_025_000 if n == 2 else 3_598_609_000) * f * L * tau * delta, P * S)
     else:
         need = loss_need(heat, aim) if goal == 2 else surface_need(heat, alpha, s)
-    for k in range(0, 301, 10):
-        h = have(D, L, alpha, k)
-        verdict = judge(h, need)
-        if verdict != MISSES:
-            break
-    else:
-        return 17
-    if verdict == OPEN:
-        return 18
+    found = search(D, L, alpha, need)
 
-    loss, surface = 3, MEETS
+    second, limit = 0, loss_limit(service, t) if goal in HOT_GOALS else None
+    if goal == LIMITED and limit is not None and not isinstance(found, int):
+        check = judge(found[1], loss_need(heat, limit))
+        if check == OPEN:
+            return 18
+        if check == MISSES:
+            second, found = 1, search(D, L, alpha, loss_need(heat, limit * 90 // 100))
+    if isinstance(found, int):
+        return found
+
+    k, h = found
+    loss, surface = 3 if limit is None else judge(h, loss_need(heat, limit)), MEETS
     if goal in HOT_GOALS:
-        limit = loss_limit(service, t)
-        loss = 3 if limit is None else judge(h, loss_need(heat, limit))
-        limit = 500 if ta <= 270 else ta + 250
-        surface = MEETS if t <= limit else judge(h, surface_need(heat, alpha, limit - ta))
+        highest = 500 if ta <= 270 else ta + 250
+        surface = MEETS if t <= highest else judge(h, surface_need(heat, alpha, highest - ta))
     bound = ta + way * min(delta, up(heat * 10**7, alpha * h[0]))
-    return [0, 3 - n, *encoded("thickness", k), loss, surface, *encoded("surface bound", bound, negative=True)]
+    return [second, 3 - n, *encoded("thickness", k), loss, surface, *encoded("surface bound", bound, negative=True)]
 
 
 def sheet_of(line=0, **fields):

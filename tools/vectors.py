@@ -17,10 +17,10 @@ from random import Random
 
 sys.dont_write_bytecode = True
 from listing import line
-from near import (aimed, allowed, between, chosen, close_loss, close_surface, economy_square, edge, fields, have, layer,
-                  loss_check, loss_need, moved, open_at, over_loss, packed, sides, surface_check, surface_need, thickness,
-                  verdict, within_loss)
-from sheet import (COLD_GOALS, ECONOMY_GOALS, HOT_GOALS, MEETS, MISSES, OPEN, SEASONAL, SURFACE_GOALS, YEAR_ROUND, answer,
+from near import (aimed, allowed, between, by_loss, check_edge, chosen, close_loss, close_surface, economy_square, edge, fields,
+                  given, have, layer, limited, loss_check, loss_need, moved, open_at, over_loss, packed, second_aim, second_edge,
+                  second_met, second_missed, second_open, sides, surface_check, surface_need, thickness, verdict, within_loss)
+from sheet import (COLD_GOALS, ECONOMY_GOALS, LIMITED, MEETS, MISSES, OPEN, SEASONAL, SURFACE_GOALS, YEAR_ROUND, answer,
                    direction, judge, loss_limit, ratio, root, signed, up)
 
 UNUSED = dict(f=0, tau=0, P=0, S=0)
@@ -30,12 +30,21 @@ SURFACE = dict(goal=3, service=1, line=3, D=1_080, t=1_500, ta=200, L=400, alpha
 WARM = {**ECONOMY, "t": 1_500, "ta": 200}
 COLD_SURFACE = dict(goal=4, service=1, line=4, D=1_080, t=-100, ta=300, L=400, alpha=1_163, **UNUSED, aim=250)
 COLD_ECONOMY = {**ECONOMY, "goal": 5, "line": 5, "t": -100, "ta": 300}
-ONE_EACH = [WARM, LOSS, SURFACE, COLD_SURFACE, COLD_ECONOMY]  # the goals in order
+ECONOMY_LIMITED = {**WARM, "goal": 6, "line": 6}
+ONE_EACH = [WARM, LOSS, SURFACE, COLD_SURFACE, COLD_ECONOMY, ECONOMY_LIMITED]  # the goals in order
 F = dict(goal=2, service=1, line=7, D=12_000, t=1_300, ta=200, L=400, alpha=800, **UNUSED, aim=800)
 G = dict(goal=2, service=1, line=9, D=10_001, t=300, ta=200, L=400, alpha=1_163, **UNUSED, aim=1_163)
 SERVICES = {1: "year-round", 2: "seasonal", 3: "year-round-interpolated", 4: "seasonal-interpolated"}
 SHAPES = {False: "cylinder", True: "flat"}
 CHECKS = ["within", "over", "close", "none"]
+BY_REQUEST = ((1, 2, 3), (4, 5), (6,))  # the goals of 01, of N4 and of N5: those of a later request are drawn after the others
+
+# Walls worked by hand for goal 6, with a heat price so low that the first pass gives bare wall: of bare wall the loss need and have are
+# both L × 10⁷ / 1,160 at 50.0 °C, and at 150.0 °C the second need and have at 100 mm are both 10⁹ / 9.
+CHEAP = {**ECONOMY_LIMITED, "D": 20_000, "f": 1, "P": 65_535, "S": 10_000}
+CLOSE = {**CHEAP, "t": 500, "ta": 450, "alpha": 1_160}
+SECOND_OPEN = {**CHEAP, "t": 1_500, "ta": 340, "L": 1_000, "alpha": 900}
+SECOND_BEYOND = {**CHEAP, "t": 1_500, "ta": -171, "L": 2_000, "alpha": 1_000}
 
 # Tables 3, 4 and 5 of source document 002 as printed: pipe diameter and computed thickness, both in m.
 TABLE_3 = """
@@ -65,8 +74,8 @@ def word(number):
 
 def parts(result):
     """The parts of an answer, each by its name."""
-    _, shape, high, low, loss, surface, *bound = result
-    return dict(shape=shape, mm=256 * high + low, loss=loss, surface=surface, bound=signed(256 * bound[0] + bound[1]))
+    second, shape, high, low, loss, surface, *bound = result
+    return dict(second=second, shape=shape, mm=256 * high + low, loss=loss, surface=surface, bound=signed(256 * bound[0] + bound[1]))
 
 
 def bound_from_air(x, k):
@@ -86,17 +95,18 @@ def hot(x, k):
 
 def ordinary(x):
     """What is wanted of a sheet that is not refused with 11 to 16: all parts of its answer; or refusal 17 or 18."""
-    k, found = thickness(x) or (None, MISSES)
-    if found != MEETS:
-        return 17 if found == MISSES else 18
-    return dict(shape={2: 1, 1: 2}[sides(x)], **(cold if x["goal"] in COLD_GOALS else hot)(x, k))
+    result = given(x)
+    if isinstance(result, int):
+        return result
+    k, second = result
+    return dict(second=second, shape={2: 1, 1: 2}[sides(x)], **(cold if x["goal"] in COLD_GOALS else hot)(x, k))
 
 
 def diameters():
     """01: "D 10,000 is a cylinder, 10,001 flat"."""
     yield "diameter-10000-cylinder", {**LOSS, "D": 10_000}, dict(shape=1)
     yield "diameter-10001-flat", {**LOSS, "D": 10_001}, dict(shape=2)
-    for x in (WARM, SURFACE, COLD_SURFACE, COLD_ECONOMY):
+    for x in (WARM, SURFACE, COLD_SURFACE, COLD_ECONOMY, ECONOMY_LIMITED):
         yield f"diameter-10000-goal-{x['goal']}", {**x, "D": 10_000}, dict(shape=1)
         yield f"diameter-10001-goal-{x['goal']}", {**x, "D": 10_001}, dict(shape=2)
 
@@ -144,9 +154,9 @@ def lengths():
 
 def codes():
     """01: "12: goal or service code unknown"; 02, N2: "refusal 12 admits the two new codes"; N4: "Goal 4 is cold surface", "goal
-    5 is cold economy", and each has every service."""
+    5 is cold economy"; N5: "Goal 6 is goal 1 with that second pass", and each has every service."""
     sheets = {x["goal"]: x for x in ONE_EACH}
-    for goal in (0, 1, 2, 3, 4, 5, 6, 7, 129, 130, 132, 255):
+    for goal in (0, 1, 2, 3, 4, 5, 6, 7, 129, 130, 132, 134, 255):
         x = {**sheets.get(goal, LOSS), "goal": goal}
         for service in (0, 1, 2, 3, 4, 5, 129, 130, 255):
             known = goal in sheets and service in SERVICES
@@ -200,15 +210,17 @@ def single_bytes():
 
 def unused():
     """01: "14: an unused field not zero, or goal 1 with an aim not zero"; 02, N4: "Goal 5 uses offsets 14–21 as goal 1 does and
-    its aim is zero"."""
+    its aim is zero"; N5, of goal 6: "its aim is zero", also where the loss aim of the second pass would be right."""
     for x in (LOSS, SURFACE, COLD_SURFACE):
         yield f"unused-all-zero-goal-{x['goal']}", x, {}
         for name in UNUSED:
             for value in (1, 256, 65_535):
                 yield f"unused-{name.lower()}-{value}-goal-{x['goal']}", {**x, name: value}, 14
-    for x in (WARM, COLD_ECONOMY):
+    for x in (WARM, COLD_ECONOMY, ECONOMY_LIMITED):
         for aim in (0, 1, 256, 32_768, 65_535):
             yield f"unused-aim-{aim}-goal-{x['goal']}", {**x, "aim": aim}, 14 if aim else {}
+    for aim in (0, 1_044, 1_160):
+        yield f"unused-aim-{aim}-second-pass", {**CHEAP, "aim": aim}, 14 if aim else dict(second=1)
 
 
 def wrong_side():
@@ -222,7 +234,7 @@ def wrong_side():
                 fit = {2: dict(aim=10), 3: dict(aim=ta + 1), 4: dict(aim=ta - 1)}.get(goal, {})
                 wanted = 15 if by <= 0 else 16 if by == 1 and goal in SURFACE_GOALS else {}
                 yield f"t-{word(t)}-air-{word(ta)}-goal-{goal}", {**x, "t": t, "ta": ta, **fit}, wanted
-    for x, goal in ((WARM, 5), (SURFACE, 4), (COLD_ECONOMY, 1), (COLD_SURFACE, 2), (COLD_SURFACE, 3)):
+    for x, goal in ((WARM, 5), (SURFACE, 4), (COLD_ECONOMY, 1), (COLD_SURFACE, 2), (COLD_SURFACE, 3), (COLD_ECONOMY, 6)):
         yield f"{'cold' if x['goal'] in COLD_GOALS else 'hot'}-sheet-goal-{goal}", {**x, "goal": goal}, 15
 
 
@@ -247,9 +259,9 @@ def around_zero():
     """01: "t, ta and a surface aim are signed 16-bit two's complement": each at and around zero, and at the lower end."""
     pairs = [(v + by, v) for v in (-500, -2, -1, 0, 1, 2) for by in (2, 300)]
     pairs += [(v, v - by) for v in (-498, -2, -1, 0, 1, 2) for by in (2, 300) if v - by >= -500]
-    for x in ONE_EACH[:3]:
+    for x in (WARM, LOSS, SURFACE, ECONOMY_LIMITED):
         for t, ta in sorted(set(pairs)):
-            fit = {1: dict(f=50_000), 2: dict(aim=10 if t - ta == 2 else 100), 3: dict(aim=ta + up(t - ta, 3))}[x["goal"]]
+            fit = {2: dict(aim=10 if t - ta == 2 else 100), 3: dict(aim=ta + up(t - ta, 3))}.get(x["goal"], dict(f=50_000))
             yield f"zero-t-{word(t)}-ta-{word(ta)}-goal-{x['goal']}", {**x, "t": t, "ta": ta, **fit}, {}
     for flat in (False, True):
         for aim in (-10, -2, -1, 0, 1, 2, 10):
@@ -335,13 +347,21 @@ FILM = {**COLD_SURFACE, "D": 20_000, "t": -1_960, "ta": 500, "L": 1, "alpha": 10
 
 
 def fault_before_rungs():
-    """01: "Tests run in this order": one of the cases 11 to 14 holds beside 17 or 18, and decides."""
+    """01: "Tests run in this order": one of the cases 11 to 14 holds beside 17 or 18, and decides; under goal 6 beside those of its
+    check and its second pass too."""
     for name, x, last in (("loss", FAR, 17), ("surface", STEAM, 17), ("cold-surface", FROST, 17), ("cold-economy", DEAR, 17),
-                          ("loss", G, 18), ("cold-surface", FILM, 18)):
+                          ("loss", G, 18), ("cold-surface", FILM, 18), ("limited", {**DEAR, "goal": 6, "t": 6_500}, 17)):
         yield f"case-{last}-{name}", x, last
         yield f"cases-11-and-{last}-{name}", packed(x) + b"\0", 11
         for first, fault in ((12, dict(service=5)), (13, dict(t=-1_961, aim=-1_960) if x is FILM else dict(L=2_001)),
-                             (14, dict(aim=1) if x["goal"] == 5 else dict(S=1))):
+                             (14, dict(aim=1) if x["goal"] in ECONOMY_GOALS else dict(S=1))):
+            y = {**x, **fault}
+            assert ordinary(y) == last
+            yield f"cases-{first}-and-{last}-{name}", y, first
+    for name, x, last in (("close", CLOSE, 18), ("second-open", SECOND_OPEN, 18), ("second-beyond", SECOND_BEYOND, 17)):
+        yield f"case-{last}-{name}", x, last
+        yield f"cases-11-and-{last}-{name}", packed(x)[:23], 11
+        for first, fault in ((13, dict(tau=8_785)), (14, dict(aim=1))):
             y = {**x, **fault}
             assert ordinary(y) == last
             yield f"cases-{first}-and-{last}-{name}", y, first
@@ -371,7 +391,7 @@ def last_rung():
     """17 and 18 never hold at once: 18 needs a rung that doesn't miss. The nearest to both: all rungs miss but the last, which is
     open; and the nearest sheet of more need, where the last one misses too."""
     r = Random(17)
-    for goals in (HOT_GOALS, COLD_GOALS):
+    for goals in BY_REQUEST:
         for flat in (False, True):
             for goal in goals:
                 more = None
@@ -538,7 +558,7 @@ def rungs():
     that 300 mm meet, and the first that they miss. Under goals 3 and 4 bare pipe never meets, since the aim is not t: a tenth
     from t it takes 10 mm."""
     r = Random(31)
-    for goals in (HOT_GOALS, COLD_GOALS):
+    for goals in BY_REQUEST:
         for flat in (False, True):
             for goal in goals:
                 end = f"goal-{goal}-{SHAPES[flat]}"
@@ -563,7 +583,7 @@ def open_rungs():
     sheet of less need goes with an open rung 0 under goals 3 and 4, where bare pipe never meets."""
     r = Random(18)
     widths = {"small-cylinder": dict(D=150), "cylinder": dict(D=2_730), "wide-cylinder": dict(D=9_999), "flat": dict(D=10_001)}
-    for goals, places in ((HOT_GOALS, list(widths)), (COLD_GOALS, ["small-cylinder", "flat"])):
+    for goals, places in zip(BY_REQUEST, (list(widths), ["small-cylinder", "flat"], ["small-cylinder", "flat"])):
         for width in places:
             for goal in goals:
                 for place, k in (("first", 0), ("second", 10), ("middle", 120), ("last", 300)):
@@ -628,11 +648,11 @@ def wrong_turns():
     """01: "Halving 3.795 for the flat wall: the standard prints 1.897." "Keeping the product below the root in 64 bits: it can
     need 87." Sheet G shows the one about rounding, and the groups above the ones about the ladder."""
     r = Random(87)
-    for goal, start in ((1, ""), (5, "cold-")):
+    for goal, start in ((1, ""), (5, "cold-"), (6, "limited-")):
         for k in (20, 100, 300):
             yield f"{start}flat-coefficient-{k}-mm", telling(r, goal, k), dict(mm=k)
     hot, frost = {**WARM, "t": 6_500, "ta": -500}, {**COLD_ECONOMY, "t": -1_960, "ta": 500}
-    for start, widest, t in (("", hot, 201), ("cold-", frost, 199)):
+    for start, widest, t in (("", hot, 201), ("cold-", frost, 199), ("limited-", {**hot, "goal": 6, "service": 2}, 201)):
         for name, D in (("cylinder", 10_000), ("small-cylinder", 100), ("flat", 10_001)):
             most = {**widest, "D": D, "L": 2_000, "f": 65_535, "tau": 8_784}
             least = {**widest, "D": D, "t": t, "ta": 200, "L": 1, "f": 1, "tau": 1}
@@ -730,12 +750,282 @@ def upper_case():
     yield "upper-case-refused", {**letters, "service": 0xAF}, 12
     frost = {**COLD_ECONOMY, "line": 0xFEDC, "D": 0xABCD, "t": -1_366, "ta": -20}
     yield "upper-case-cold", frost, dict(shape=2, loss=3, surface=0)
+    yield "upper-case-second-pass", {**CHEAP, "line": 0xFEDC, "D": 0xABCD, "t": 0x5DC, "ta": -0x36}, dict(second=1, bound=-5)
+
+
+def limited_checks():
+    """02, N5: "Goal 6 is goal 1 with that second pass". Where goal 1's check says within, or none is printed, goal 6 gives the same
+    eight bytes. "If the loss check says over, the rung is found again by the loss method with 90 per cent of the limit in tenths,
+    rounded down. Byte 0 of the answer is then 1 in place of 0": the rest is what goal 2 gives with that aim. With each service, on a
+    cylinder between two rows and on a wall at a row."""
+    r = Random(6)
+    for flat in (False, True):
+        for service in SERVICES:
+            for check in (0, 3, 1):
+                t = 500 * r.randint(1, 7) + (0 if flat else r.randint(1, 499))
+                if check == 3:
+                    t = r.randint(4_501, 6_500) if flat and service in (2, 4) else r.randint(300, 499)
+                x = limited(r, flat, check, service=service, t=t, ta=r.randint(-500, 250))
+                name = f"limited-{CHECKS[check]}-service-{service}-{SHAPES[flat]}"
+                alone = {**x, "goal": 1}
+                yield f"{name}-goal-1", alone, dict(second=0, loss=check)
+                wanted = parts(answer(packed(alone)))
+                if check == 1:
+                    again = by_loss(x, second_aim(x))
+                    yield f"{name}-goal-2", again, dict(second=0, loss=0)
+                    wanted = {**parts(answer(packed(again))), "second": 1}
+                yield f"{name}-goal-6", x, wanted
+
+
+def limited_close():
+    """02, N5: "If the check says too close, the sheet gets 18." Goal 1 gives such a sheet an answer. With the nearest surface
+    coefficients by which the check says within, so that the first pass stands, and over, so that the second follows."""
+    r = Random(80)
+    for width, D in (("small-cylinder", 150), ("cylinder", 2_730), ("flat", 10_001)):
+        for k in (0, 10, 50):
+            x = less = more = None
+            while not (less and more and given(less) == (k, 0) and not isinstance(given(more), int)):
+                x = close_loss(r, 6, width == "flat", k, D=D)
+                limit = loss_limit(x["service"], x["t"])
+                less, more = (beside_film(x, k, limit, wanted) for wanted in (MEETS, MISSES))
+            name = f"limited-close-{k}-mm-{width}"
+            yield f"{name}-goal-1", {**x, "goal": 1}, dict(mm=k, loss=2)
+            yield f"{name}-goal-6", x, 18
+            yield f"{name}-within", less, dict(second=0, mm=k, loss=0)
+            yield f"{name}-over", more, dict(second=1, loss=0)
+
+
+def beside_film(x, k, loss, wanted):
+    """The sheet with the nearest surface coefficient by which k mm meet, or miss, at a loss, as wanted. None where its range ends."""
+    while 100 <= x["alpha"] <= 10_000 and judge(have(x, k), ratio(*loss_need(x, loss))) != wanted:
+        x = {**x, "alpha": x["alpha"] + (1 if wanted == MISSES else -1)}
+    return x if 100 <= x["alpha"] <= 10_000 else None
+
+
+def limited_edges():
+    """01: "A rung meets if under-have is at or above high need. It misses if over-have is below low need. Otherwise it is open." So of
+    the check after the first pass, and of the second pass: a nanometre tells them apart. The rungs that are missed leave the next."""
+    r = Random(121)
+    for width, D, k in (("small-cylinder", 150, 10), ("flat", 10_001, 50)):
+        flat = width == "flat"
+        yield f"check-edge-within-{width}", check_edge(r, flat, k, 0, 0, D=D), dict(second=0, mm=k, loss=0)
+        yield f"check-edge-first-close-{width}", check_edge(r, flat, k, 0, 1, D=D), 18
+        yield f"check-edge-last-close-{width}", check_edge(r, flat, k, 1, 0, D=D), 18
+        yield f"check-edge-over-{width}", check_edge(r, flat, k, 1, 1, D=D), dict(second=1, loss=0)
+        yield f"second-edge-meets-{width}", second_edge(r, flat, 0, k, 0, 0, D=D), dict(second=1, mm=k, loss=0)
+        yield f"second-edge-first-open-{width}", second_edge(r, flat, 0, k, 0, 1, D=D), 18
+        yield f"second-edge-last-open-{width}", second_edge(r, flat, 0, k, 1, 0, D=D), 18
+        yield f"second-edge-misses-{width}", second_edge(r, flat, 0, k, 1, 1, D=D), dict(second=1, mm=k + 10, loss=0)
+
+
+def second_aims():
+    """02, N5: "90 per cent of the limit in tenths, rounded down", and N2 of a limit between two rows: "in tenths of W/m², rounded
+    down". For each row a rung that the second pass finds with that aim and would miss with one 0.1 W/m² lower, and a rung that it
+    misses and would find with one 0.1 W/m² higher. Between two rows the limit ends in each of the digits 1 to 9, and a tenth of a
+    degree further on it is higher, so that 90 per cent of the straight line itself, rounded down once, would mostly be more."""
+    r = Random(90)
+    for service, column in ((1, YEAR_ROUND), (2, SEASONAL)):
+        for row, limit in enumerate(column):
+            yield from beside_aim(r, service, 500 * (row + 1), 9 * limit)
+    for service, column in ((3, YEAR_ROUND), (4, SEASONAL)):
+        for row, (low, high) in enumerate(zip(column, column[1:])):
+            limits = [(10 * low * (500 - beyond) + 10 * high * beyond) // 500 for beyond in range(501)]
+            beyond = next(i for i in range(1, 500) if limits[i] % 10 == 1 + row % 9 and limits[i] < limits[i + 1])
+            yield from beside_aim(r, service, 500 * (row + 1) + beyond, limits[beyond] * 90 // 100)
+
+
+def beside_aim(r, service, t, aim):
+    """A sheet of 40 mm by its second pass, with hardly more than that aim needs; and one that needs hardly more than 40 mm."""
+    for name, sheet, k in (("met", second_met, 40), ("missed", second_missed, 50)):
+        x = sheet(r, r.random() < 0.5, r.choice((0, 10, 20)), 40, service=service, t=t, ta=r.randint(-500, 400))
+        assert second_aim(x) == aim, (service, t)
+        yield f"second-{name}-{aim}-t-{t}-service-{service}", x, dict(second=1, mm=k, loss=0)
+
+
+def second_shares():
+    """02, N5: "80 to 90 per cent of the allowed loss", and of these "90 per cent": sheets where 100, 95, 90, 85 and 80 per cent lead
+    to five rungs."""
+    r = Random(5_121)
+    for flat in (False, True):
+        x, rungs = None, []
+        while len(set(rungs)) < 5 or None in rungs:
+            x = limited(r, flat, 1, L=r.randint(1_000, 2_000))
+            limit = loss_limit(x["service"], x["t"])
+            rungs = [thickness(by_loss(x, limit * share // 100)) for share in (100, 95, 90, 85, 80)]
+        yield f"second-90-per-cent-{SHAPES[flat]}", x, dict(second=1, mm=rungs[2][0], loss=0)
+
+
+def second_rungs():
+    """02, N5: "the rung is found again": one just above the first, and one far above it; also from bare pipe, and up to the last."""
+    r = Random(310)
+    for flat in (False, True):
+        for first, k in ((0, 10), (0, 150), (0, 300), (10, 20), (40, 50), (20, 250), (200, 230), (260, 300)):
+            x = second_met(r, flat, first, k)
+            yield f"second-rung-{k}-after-{first}-{SHAPES[flat]}", x, dict(second=1, mm=k, loss=0)
+
+
+def second_open_rungs():
+    """02, N5: "The second pass can meet 17 and 18 as the first can." Its first rung that doesn't miss is open. With the nearest surface
+    coefficients by which it meets, and by which it misses: the rung above then meets."""
+    r = Random(118)
+    for width, D, pairs in (("small-cylinder", 150, ((0, 10), (20, 50))), ("cylinder", 2_730, ((10, 30), (0, 120))),
+                            ("flat", 10_001, ((0, 10), (40, 50), (0, 200)))):
+        for first, k in pairs:
+            x = less = more = None
+            while not (less and more and given(less) == (k, 1) and given(more) == (k + 10, 1)):
+                x = second_open(r, width == "flat", first, k, D=D)
+                less, more = (beside_film(x, k, second_aim(x), wanted) for wanted in (MEETS, MISSES))
+            assert verdict(by_loss(x, second_aim(x)), k + 10) == MEETS
+            name = f"second-open-{k}-mm-after-{first}-{width}"
+            yield name, x, 18
+            yield f"{name}-less", less, dict(second=1, mm=k, loss=0)
+            yield f"{name}-more", more, dict(second=1, mm=k + 10, loss=0)
+
+
+def second_last_rung():
+    """02, N5: "The second pass can meet 17 and 18 as the first can", at the last rung: 300 mm meet, are open, and miss. Goal 1 gives
+    these sheets an answer."""
+    r = Random(117)
+    for flat in (False, True):
+        yield f"second-last-rung-meets-{SHAPES[flat]}", second_met(r, flat, 20, 300), dict(second=1, mm=300, loss=0)
+        yield f"second-last-rung-open-{SHAPES[flat]}", second_open(r, flat, 20, 300), 18
+        x = second_missed(r, flat, 20, 300)
+        yield f"second-beyond-{SHAPES[flat]}-goal-1", {**x, "goal": 1}, dict(second=0, mm=20, loss=1)
+        yield f"second-beyond-{SHAPES[flat]}-goal-2", by_loss(x, second_aim(x)), 17
+        yield f"second-beyond-{SHAPES[flat]}-goal-6", x, 17
+
+
+def first_refused():
+    """02, N5: goal 6 has a second pass only "if the loss check says over", and a sheet whose first pass ends in 17 or 18 has no
+    check: it is refused as goal 1 refuses it, though the loss method would find a rung, and though the highest rung or the open one
+    would be over."""
+    r = Random(617)
+    for flat in (False, True):
+        for name, sheet in (("17-loss-met", beyond_first), ("17-loss-over", beyond_first),
+                            ("18-loss-met", open_first), ("18-loss-over", open_first)):
+            x, wanted = sheet(r, flat, MISSES if name.endswith("over") else MEETS)
+            for goal in (1, 6):
+                yield f"first-{name}-{SHAPES[flat]}-goal-{goal}", {**x, "goal": goal}, wanted
+
+
+def beyond_first(r, flat, check):
+    """A sheet of goal 6 that all rungs miss in the first pass, where the check of 300 mm would be as given; and 17."""
+    while True:
+        x = fields(r, 6, flat)
+        y = aimed(x, have(x, 300)[1] * r.randint(1_001, 2_000) // 1_000)
+        if allowed(y) and loss_check(y, 300) == check and (check == MISSES or found_by_loss(y)):
+            return y, 17
+
+
+def open_first(r, flat, check):
+    """A sheet of goal 6 with an open rung in the first pass, where the check of that rung would be as given; and 18."""
+    while True:
+        k = 10 * r.randint(0, 10)
+        x = open_at(r, 6, flat, k)
+        if loss_check(x, k) == check and found_by_loss(x):
+            return x, 18
+
+
+def found_by_loss(x):
+    """Whether the loss method finds a rung at the aim of the second pass."""
+    return not isinstance(given(by_loss(x, second_aim(x))), int)
+
+
+def limited_surfaces():
+    """02, N5: "Checks and bound are then those of the second rung": its surface check, where the first rung's is another, and where it
+    is the same. The loss check is within: a rung that meets at 90 per cent of the limit meets at the limit. Where the first pass
+    stands, the checks are those of its rung."""
+    r = Random(335)
+    for flat in (False, True):
+        for check, first, surface in ((0, 0, 0), (0, 1, 1), (1, 0, 0), (1, 1, 0), (1, 1, 1)):
+            x = None
+            while not x or (surface_check(x, thickness(x)[0]), ordinary(x)["surface"]) != (first, surface):
+                ta = r.randint(-500, 500)
+                x = limited(r, flat, check, ta=ta, t=r.randint(751, 6_500))
+            name = f"limited-{CHECKS[check]}-surface-{CHECKS[first]}-{CHECKS[surface]}-{SHAPES[flat]}"
+            yield name, x, dict(second=check, surface=surface)
+        yield f"limited-within-surface-close-{SHAPES[flat]}", close_surface(r, 6, flat, 50), dict(second=0, mm=50, surface=2)
+        x = close_surface(r, 6, flat, 50, first=20)
+        yield f"limited-over-surface-close-{SHAPES[flat]}", x, dict(second=1, mm=50, loss=0, surface=2)
+
+
+def limited_rows():
+    """01: "The row is the highest one not above t. Below 50.0, or seasonal from 450.0, none is printed." 02, N2: "Seasonal at 400.0 gives
+    314; above it none is printed." Under goal 6 the second pass begins and ends there. And the same sheet is over the limit of the row
+    below, a tenth of a degree under a row, and within that row's."""
+    ends = {1: (500, 6_500), 2: (500, 4_499), 3: (500, 6_500), 4: (500, 4_000)}
+    for service, (least, most) in ends.items():
+        for t in (least - 1, least, most, most + 1):
+            if t <= 6_500:
+                second = int(least <= t <= most)
+                x = {**CHEAP, "service": service, "t": t, "ta": -200}
+                yield f"second-from-{least}-to-{most}-t-{t}-service-{service}", x, dict(second=second, loss=0 if second else 3)
+    r = Random(512)
+    for service in (1, 2):
+        for t, flat in ((1_000, False), (3_000, True)):
+            x = below = None
+            while not below or given(below) == given(x) or isinstance(given(below), int):
+                x = limited(r, flat, 0, service=service, t=t)
+                below = {**x, "t": t - 1}
+            yield f"limited-row-t-{t - 1}-service-{service}", below, dict(second=1, loss=0)
+            yield f"limited-row-t-{t}-service-{service}", x, dict(second=0, loss=0)
+
+
+def second_bounds():
+    """02, N5: "Checks and bound are then those of the second rung", and 01: "surface bound in 0.1 °C, signed". Both temperatures are
+    moved by as much, within a row, until the bound is the one named, and the rest stays."""
+    for flat in (False, True):
+        x = {**CHEAP, "D": 20_000 if flat else 1_590, "t": 999, "ta": 0, "alpha": 1_163}
+        first = ordinary(x)
+        assert first["second"] == 1
+        for bound in (-257, -256, -255, -11, -1, 0, 1, 11):
+            by = bound - first["bound"]
+            y = {**x, "t": 999 + by, "ta": by}
+            yield f"second-bound-{word(bound)}-ta-{word(by)}-{SHAPES[flat]}", y, {**first, "bound": bound}
+
+
+def worked_limited():
+    """Sheets of goal 6 worked by hand with the equations of 01 and 02.
+
+    At 150.0 °C the limit is 1,160 tenths and the second aim 1,044. With L and α 1,000 a wall has k × 10⁶ + 10⁷. At ta 34.0 the limit needs
+    10⁸, so that 90 mm are within and 80 mm over, and the second pass needs 10⁹ / 9, so 110 mm; the first need is 94,850,000 for f 1,000
+    and 85,365,000 for f 810. At ta 45.6 the second pass needs 10⁸, so 90 mm, and with α 1,001 a little more than 90 mm have.
+    At ta 34.0 with α 900, 100 mm have the 10⁹ / 9 of the second pass. With L 2,000 it needs 319,923,371.6 at ta -17.0, and 300 mm have
+    320,000,000; at ta -17.1 it needs 320,114,942.5.
+
+    At 130.0 °C with service 3 the limit is 1,068 and the second aim 961, from 961.2. At ta 30.0 it needs 10⁸ with L 961, and 90 mm have
+    this with α 961. With L and α 962 it needs 100,104,058.3; with the aim 962 it would need 10⁸, which 90 mm have.
+
+    Bare wall at 50.0 °C in air of 45.0 °C loses just the limit, 580 tenths, with α 1,160. Have and loss need are L × 10⁷ / 1,160, and it
+    is too close unless this is a whole number."""
+    wall = {**CHEAP, "t": 1_500, "ta": 340, "L": 1_000, "alpha": 1_000}
+    paid = {**wall, "tau": 5_000, "P": 1_160, "S": 2_000}
+    mm_110 = dict(second=1, shape=2, mm=110, loss=0, surface=0, bound=437)
+    yield "worked-limited-f-1000", {**paid, "f": 1_000}, dict(second=0, shape=2, mm=90, loss=0, surface=0, bound=456)
+    yield "worked-limited-f-810", {**paid, "f": 810}, mm_110
+    yield "worked-limited-f-810-goal-1", {**paid, "f": 810, "goal": 1}, dict(second=0, mm=80, loss=1, bound=469)
+    yield "worked-limited-f-1", wall, mm_110
+    yield "worked-limited-ta-456", {**wall, "ta": 456}, dict(second=1, shape=2, mm=90, loss=0, bound=561)
+    yield "worked-limited-ta-456-alpha-1001", {**wall, "ta": 456, "alpha": 1_001}, dict(second=1, mm=100)
+    for alpha, wanted in ((899, dict(second=1, mm=100)), (900, 18), (901, dict(second=1, mm=110))):
+        yield f"worked-limited-f-810-alpha-{alpha}", {**paid, "f": 810, "alpha": alpha}, wanted
+    deep = {**SECOND_BEYOND, "ta": -170}
+    yield "worked-limited-ta-minus-170", deep, dict(second=1, shape=2, mm=300, loss=0, surface=0, bound=-65)
+    yield "worked-limited-ta-minus-171", SECOND_BEYOND, 17
+    line = {**CHEAP, "service": 3, "t": 1_300, "ta": 300}
+    yield "worked-limited-aim-961-met", {**line, "L": 961, "alpha": 961}, dict(second=1, shape=2, mm=90, loss=0)
+    yield "worked-limited-aim-961-missed", {**line, "L": 962, "alpha": 962}, dict(second=1, shape=2, mm=100, loss=0)
+    yield "worked-limited-bare-close", CLOSE, 18
+    yield "worked-limited-bare-within", {**CLOSE, "L": 348}, dict(second=0, mm=0, loss=0, surface=0, bound=500)
+    yield "worked-limited-bare-over", {**CLOSE, "alpha": 1_161}, dict(second=1, mm=10, loss=0)
 
 
 GROUPS = [diameters, economy, table_4, cold_tables, lengths, codes, ranges, single_bytes, unused, wrong_side, aims, around_zero,
           cold_around_zero, bounds, cold_bounds, two_faults, fault_before_rungs,
           temperatures_before_rungs, last_rung, rows, limits, interpolated_limits, surface_limits, checks, cold_checks,
-          rungs, open_rungs, edges, equal, wrong_turns, held, cold_held, mirrored, worked, worked_cold, upper_case]
+          rungs, open_rungs, edges, equal, wrong_turns, held, cold_held, mirrored, worked, worked_cold, upper_case,
+          limited_checks, limited_close, limited_edges, second_aims, second_shares, second_rungs, second_open_rungs,
+          second_last_rung, first_refused, limited_surfaces, limited_rows, second_bounds, worked_limited]
 
 
 def vectors():
