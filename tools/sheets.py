@@ -12,9 +12,11 @@ from itertools import combinations, product
 from random import Random
 
 sys.dont_write_bytecode = True
-from near import (aimed, allowed, beside_air, between, chosen, close_loss, close_surface, edge, fields, have, level, moved, open_at,
-                  over_loss, packed, surface_limit, within_loss)
-from sheet import COLD_GOALS, ECONOMY_GOALS, GOALS, HOT_GOALS, NAMES, SURFACE_GOALS, answer, direction, is_signed, signed
+from near import (aimed, allowed, beside_air, between, by_loss, chosen, close_loss, close_surface, edge, fields, given, have, level,
+                  limited, moved, open_at, over_loss, packed, second_aim, second_met, second_missed, second_open, surface_limit,
+                  within_loss)
+from sheet import (COLD_GOALS, ECONOMY_GOALS, GOALS, HOT_GOALS, LIMITED, NAMES, SURFACE_GOALS, answer, direction, is_signed,
+                   signed)
 
 F = dict(goal=2, service=1, line=7, D=12_000, t=1_300, ta=200, L=400, alpha=800, f=0, tau=0, P=0, S=0, aim=800)
 G = dict(goal=2, service=1, line=9, D=10_001, t=300, ta=200, L=400, alpha=1_163, f=0, tau=0, P=0, S=0, aim=1_163)
@@ -39,10 +41,10 @@ def rung(r):
 
 
 def good(r, goals=GOALS, **fixed):
-    """An answered sheet of any goal, shape and thickness."""
+    """An answered sheet of any goal, shape and thickness; the thickness of goal 6's first pass."""
     while True:
         x = between(r, fields(r, *kind(r, goals), **fixed), rung(r))
-        if x:
+        if x and not isinstance(given(x), int):
             return x
 
 
@@ -80,7 +82,7 @@ def any_aim(r):
 
 def bare(r):
     """Thickness 0. Under goals 3 and 4 bare pipe never meets, since the aim is not t."""
-    return [chosen(r, *kind(r, (1, 2, 5)), 0)]
+    return [chosen(r, *kind(r, (1, 2, 5, 6)), 0)]
 
 
 def top(r):
@@ -100,7 +102,7 @@ def beyond(r):
 
 def unknown_code(r):
     """A goal or a service that is not known."""
-    name, known = r.choice([("goal", 5), ("service", 4)])
+    name, known = r.choice([("goal", 6), ("service", 4)])
     return [wrapped({**good(r), name: r.choice([0, known + 1, known + 2, 255, r.randint(known + 1, 255)])})]
 
 
@@ -154,7 +156,7 @@ def wrong_side(r):
 def other_direction(r):
     """A good sheet under a goal of the other direction that uses the same fields."""
     x = good(r)
-    return [wrapped({**x, "goal": {1: 5, 2: 4, 3: 4, 4: r.choice([2, 3]), 5: 1}[x["goal"]]})]
+    return [wrapped({**x, "goal": {1: 5, 2: 4, 3: 4, 4: r.choice([2, 3]), 5: r.choice([1, 6]), 6: 5}[x["goal"]]})]
 
 
 def aim_edge(r):
@@ -284,7 +286,7 @@ def open_top(r):
 
 def open_edge(r):
     """The last need that a rung meets, the first and the last that leave it open, the first that it misses."""
-    goal, flat, k = r.choice((1, 2, 5)), r.random() < 0.3, 10 * r.randint(0, 20)
+    goal, flat, k = r.choice((1, 2, 5, 6)), r.random() < 0.3, 10 * r.randint(0, 20)
     return [edge(r, goal, flat, k, side, by) for side in (0, 1) for by in (0, 1)]
 
 
@@ -309,7 +311,7 @@ def exact(r):
 
 
 def loss_too_close(r):
-    """A loss check that is too close. Under goal 3 bare pipe never meets, since the aim is below t."""
+    """A loss check that is too close, which refuses a sheet of goal 6. Under goal 3 bare pipe never meets, since the aim is below t."""
     goal, flat = kind(r, HOT_GOALS)
     return [close_loss(r, goal, flat, 10 * r.randint(1 if goal == 3 else 0, 15))]
 
@@ -319,11 +321,47 @@ def surface_too_close(r):
     return [close_surface(r, *kind(r, HOT_GOALS), 10 * r.randint(1, 15))]
 
 
+def limited_checks(r):
+    """Sheets of goal 6 that are within the limit, over it and without one, each beside the same under goal 1; and the second pass of
+    the one that is over, as a sheet of goal 2."""
+    made = [limited(r, r.random() < 0.4, check) for check in (0, 1, 3)]
+    return made + [{**x, "goal": 1} for x in made] + [by_loss(made[1], second_aim(made[1]))]
+
+
+def rise(r, highest):
+    """A thickness for the first pass and one for the second, so far apart that the first can be over the limit."""
+    k = 10 * r.randint(1, highest // 10)
+    return 10 * r.randint(0, (9 * k - 1) // 100), k
+
+
+def second_borders(r):
+    """A rung that the second pass just finds, and one that it just misses."""
+    flat = r.random() < 0.4
+    return [second_met(r, flat, *rise(r, 300)), second_missed(r, flat, *rise(r, 300))]
+
+
+def second_too_close(r):
+    """An open rung in the second pass."""
+    return [second_open(r, r.random() < 0.4, *rise(r, 120))]
+
+
+def second_last(r):
+    """The last rung in the second pass: found, and missed."""
+    flat, first = r.random() < 0.4, 10 * r.randint(0, 20)
+    return [second_met(r, flat, first, 300), second_missed(r, flat, first, 300)]
+
+
+def limited_too_close(r):
+    """Goal 6 where the loss check of the first pass is too close, and the same under goal 1."""
+    x = close_loss(r, LIMITED, r.random() < 0.4, 10 * r.randint(0, 15))
+    return [x, {**x, "goal": 1}]
+
+
 def several_faults(r):
     """Two or more fields made bad at once."""
     x = good(r)
     bad = int(x["goal"] not in ECONOMY_GOALS)
-    faults = [dict(goal=r.choice([0, 6])), dict(service=r.choice([0, 5])), dict(D=r.randint(0, 99)), dict(L=2_001),
+    faults = [dict(goal=r.choice([0, 7])), dict(service=r.choice([0, 5])), dict(D=r.randint(0, 99)), dict(L=2_001),
               dict(alpha=99), dict(P=bad), dict(f=bad), dict(t=x["ta"]), dict(t=beside_air(x, -1)), dict(t=-1_961),
               dict(aim=1 - bad)]
     for fault in r.sample(faults, r.randint(2, 3)):
@@ -358,7 +396,8 @@ KINDS = [(answered, 260), (small_pipe, 80), (border_diameter, 3), (any_aim, 70),
          (aim_edge, 60), (around_zero, 1), (bound_near_zero, 70), (last_bounds, 8), (nitrogen, 15), (row_edge, 20),
          (limit_edges, 2), (no_limit, 30), (surface_edges, 4), (open_small, 36), (open_cylinder, 20), (open_flat, 48),
          (open_bare, 16), (open_top, 16), (open_edge, 20), (exact_root, 8), (exact, 15), (loss_too_close, 40),
-         (surface_too_close, 40), (several_faults, 50), (two_faults, 2), (random_bytes, 30)]
+         (surface_too_close, 40), (limited_checks, 20), (second_borders, 30), (second_too_close, 24), (second_last, 8),
+         (limited_too_close, 20), (several_faults, 50), (two_faults, 2), (random_bytes, 30)]
 
 
 def sheets():
@@ -371,16 +410,27 @@ def sheets():
     return [*map(packed, [F, G, *made]), packed(good(r))[:17]]
 
 
+def why(sheet):
+    """What a sheet of goal 6 that has no fault owes its result to, as goal 1's answer to the same fields tells."""
+    if sheet[0] != LIMITED:
+        return ""
+    alone = answer(bytes([1]) + sheet[1:])
+    if isinstance(alone, int):
+        return ", first pass"
+    return [", within", ", second pass", ", too close", ", none printed"][alone[4]]
+
+
 def classes(sheet):
     """The classes of a sheet for the count."""
     result = answer(sheet)
     shape = "cylinder" if 256 * sheet[4] + sheet[5] <= 10_000 else "flat"
     if isinstance(result, int):
-        return [f"refusal {result}"] + [f"refusal {result}, goal {sheet[0]}, {shape}"] * (result > 16)
+        last = [f"refusal {result}, goal {sheet[0]}{why(sheet)}, {shape}"] if result > 16 else []
+        return [f"refusal {result}", *last]
     k = 256 * result[2] + result[3]
     bound = signed(256 * result[6] + result[7])
     checks = ["within", "over", "close", "none"]
-    return ["answered", f"goal {sheet[0]}", f"goal {sheet[0]}, {shape}", f"service {sheet[1]}", shape,
+    return ["answered", f"goal {sheet[0]}", f"goal {sheet[0]}{why(sheet)}, {shape}", f"service {sheet[1]}", shape,
             f"loss {checks[result[4]]}, {shape}", f"surface {checks[result[5]]}, {shape}",
             f"{k} mm" if k in (0, 10, 290, 300) else "20 to 280 mm",
             f"bound {'below zero' if bound < 0 else 'zero' if bound == 0 else 'above zero'}"]
