@@ -8,7 +8,7 @@ A figure that the bytes of its field cannot hold exactly stops the script before
 import sys
 from fractions import Fraction
 
-GOALS = {"economy": 1, "loss": 2, "surface": 3, "cold-surface": 4, "cold-economy": 5}
+GOALS = {"economy": 1, "loss": 2, "surface": 3, "cold-surface": 4, "cold-economy": 5, "economy-limited": 6}
 SERVICES = {"year": 1, "season": 2, "year-i": 3, "season-i": 4}  # -i: the loss limit is interpolated between the rows
 UNSIGNED, SIGNED = (0, 65_535), (-32_768, 32_767)  # what two bytes hold
 
@@ -26,7 +26,7 @@ FIELDS = {
     "yearly share": ("0.0001", UNSIGNED),
 }
 AIMS = {"economy": ("0.1", UNSIGNED), "loss": ("0.1 W/m²", UNSIGNED), "surface": ("0.1 °C", SIGNED),
-        "cold-surface": ("0.1 °C", SIGNED), "cold-economy": ("0.1", UNSIGNED)}
+        "cold-surface": ("0.1 °C", SIGNED), "cold-economy": ("0.1", UNSIGNED), "economy-limited": ("0.1", UNSIGNED)}
 
 # By column: line; goal; service; diameter, mm; pipe and air, °C; conductivity, W/(m·K); surface coefficient, W/(m²·K);
 # heat price, yuan/GJ; hours a year; insulation price, yuan/m³; yearly share; aim, W/m² for a loss and °C for a surface.

@@ -65,6 +65,8 @@ gives 'a cold row of the least figures' 0401000000008000800000000000000000000000
     plant '0 cold-surface year 0.0 -3276.8 -3276.8 0 0 0 0 0 0 -3276.8'
 gives 'a cold row with the largest aim' 05020000000000000000000000000000000000000000ffff \
     plant '0 cold-economy season 0 0 0 0 0 0 0 0 0 6553.5'
+gives 'a limited row with the largest aim' 06040000000000000000000000000000000000000000ffff \
+    plant '0 economy-limited season-i 0 0 0 0 0 0 0 0 0 6553.5'
 gives 'a row with the largest loss' 02020000000000000000000000000000000000000000ffff \
     plant '0 loss season 0 0 0 0 0 0 0 0 0 6553.5'
 
@@ -94,8 +96,11 @@ refuses 'a row with a cold surface aim' 'line 160: the aim is -3276.9, but its f
     plant "$(with 13 -3276.9 "$(with 2 cold-surface "$tank")")"
 refuses 'a row with a cold economy aim' 'line 160: the aim is -0.1, but its field holds 0 to 65,535 whole units of 0.1' \
     plant "$(with 13 -0.1 "$(with 2 cold-economy "$tank")")"
+refuses 'a row with a limited economy aim' 'line 160: the aim is -0.1, but its field holds 0 to 65,535 whole units of 0.1' \
+    plant "$(with 13 -0.1 "$(with 2 economy-limited "$tank")")"
 refuses 'a row with another goal' \
-    'line 160: the goal is price, but it must be one of economy, loss, surface, cold-surface, cold-economy' plant "$(with 2 price "$tank")"
+    'line 160: the goal is price, but it must be one of economy, loss, surface, cold-surface, cold-economy, economy-limited' \
+    plant "$(with 2 price "$tank")"
 
 gives 'a sheet of the largest numbers' ffffffffffff7fff7fffffffffffffffffffffffffffffff \
     packed 255 255 65535 65535 32767 32767 65535 65535 65535 65535 65535 65535 65535
@@ -126,14 +131,22 @@ for goal in 3 4; do
         python3 tools/sheet.py $(with 12 32768 "$(with 1 $goal "$sheet")")
 done
 # shellcheck disable=SC2086,SC2046
-refuses 'a cold economy sheet with aim -1' 'aim is -1, but its field holds the whole numbers 0 to 65,535' \
-    python3 tools/sheet.py $(with 12 -1 "$(with 1 5 "$sheet")")
+for goal in 5 6; do
+    refuses "an economy sheet with aim -1, goal $goal" 'aim is -1, but its field holds the whole numbers 0 to 65,535' \
+        python3 tools/sheet.py $(with 12 -1 "$(with 1 $goal "$sheet")")
+done
 
 # a bound is 256 times its high byte plus its low byte, less 65,536 from 32,768 on
 gives 'table 4 exchanged, 20 mm and up to 7.7 °C' '0 1 0 20 3 0 0 77' python3 tools/sheet.py 1 1 270 207 70 333 2048 7500 2880 1600 2296 0
 gives 'chilled water, 20 mm and down to 20.0 °C' '0 1 0 20 3 0 0 200' python3 tools/sheet.py 5 1 270 70 207 333 2048 7500 2880 1600 2296 0
 gives 'liquid nitrogen, 50 mm and down to 43.0 °C' '0 2 0 50 3 0 1 174' python3 tools/sheet.py 4 1 12000 -1960 440 200 10000 0 0 0 0 430
 gives 'a t of -196.1 °C' 'refused 13' python3 tools/sheet.py 4 1 12000 -1961 440 200 10000 0 0 0 0 430
+gives 'a limited wall, 90 mm as by economy alone' '0 2 0 90 0 0 1 200' \
+    python3 tools/sheet.py 6 1 20000 1500 340 1000 1000 1000 5000 1160 2000 0
+gives 'a limited wall, 110 mm by its second pass' '1 2 0 110 0 0 1 181' python3 tools/sheet.py 6 1 20000 1500 340 1000 1000 810 5000 1160 2000 0
+gives 'a limited wall with an aim' 'refused 14' python3 tools/sheet.py 6 1 20000 1500 340 1000 1000 810 5000 1160 2000 1044
+gives 'a limited pipe, its check too close' 'refused 18' python3 tools/sheet.py 6 2 1080 500 400 400 1160 400 500 2600 2296 0
+gives 'a goal 7' 'refused 12' python3 tools/sheet.py 7 2 1080 500 400 400 1160 400 500 2600 2296 0
 
 # made TEXT: a sheet from what a caller hands over
 made() { python3 -c "import sys; sys.path.insert(0, 'tools'); import sheet; print(sheet.sheet_of($1).hex())"; }
@@ -143,7 +156,7 @@ refuses 'half an aim' 'aim is 0.5, but its field holds the whole numbers 0 to 65
 refuses 'another name' 'lien is no field of a sheet' made "$fields, aim=0, lien=7"
 refuses 'a name that is missing' 'aim is not given' made "$fields"
 
-for example in plant rows cold; do
+for example in plant rows cold cheap; do
     python3 examples/$example.py >"$made/out"
     report "the sheets of $example" <examples/$example.sheets
     python3 tools/listing.py <examples/$example.sheets >"$made/out"
