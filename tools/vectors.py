@@ -6,9 +6,10 @@
 
 A vector is a line: its name, the sheet's bytes in hexadecimal (- for none), and the answer's bytes, or refused and the number.
 Each group states what it wants of its sheets, and the script fails where tools/sheet.py gives something else. Every answer and
-every refusal 17 and 18 are compared with the figures of tools/near.py too. These take `judge`, `ratio`, `root`, `up`, `direction`,
-the groups of goals and `loss_limit` with its table from tools/sheet.py: an error there is seen by the vectors worked by hand and by
-the comparison with the Rust crates only. Some sheets are found by trying, with Python 3.11; other versions may find others.
+every refusal 17 and 18 are compared with the figures of tools/near.py too, and each sheet of goal 6 with what goals 1 and 2 give.
+The figures take `judge`, `ratio`, `root`, `up`, `direction`, the groups of goals and `loss_limit` with its table from tools/sheet.py:
+an error there is seen by the vectors worked by hand and by the comparison with the Rust crates only. Some sheets are found by trying,
+with Python 3.11; other versions may find others.
 """
 import re
 import sys
@@ -20,8 +21,8 @@ from listing import line
 from near import (aimed, allowed, between, by_loss, check_edge, chosen, close_loss, close_surface, economy_square, edge, fields,
                   given, have, layer, limited, loss_check, loss_need, moved, open_at, over_loss, packed, second_aim, second_edge,
                   second_met, second_missed, second_open, sides, surface_check, surface_need, thickness, verdict, within_loss)
-from sheet import (COLD_GOALS, ECONOMY_GOALS, LIMITED, MEETS, MISSES, OPEN, SEASONAL, SURFACE_GOALS, YEAR_ROUND, answer,
-                   direction, judge, loss_limit, ratio, root, signed, up)
+from sheet import (COLD_GOALS, ECONOMY_GOALS, MEETS, MISSES, OPEN, SEASONAL, SURFACE_GOALS, YEAR_ROUND, answer, direction,
+                   judge, loss_limit, ratio, root, signed, up)
 
 UNUSED = dict(f=0, tau=0, P=0, S=0)
 ECONOMY = dict(goal=1, service=1, line=1, D=270, t=207, ta=70, L=333, alpha=2_048, f=7_500, tau=2_880, P=1_600, S=2_296, aim=0)
@@ -100,6 +101,19 @@ def ordinary(x):
         return result
     k, second = result
     return dict(second=second, shape={2: 1, 1: 2}[sides(x)], **(cold if x["goal"] in COLD_GOALS else hot)(x, k))
+
+
+def by_both(x):
+    """02, N5: "Goal 6 is goal 1 with that second pass": what is wanted of a sheet of goal 6 by what goal 1 gives for the same fields and,
+    if its loss check says over, goal 2 with the second aim."""
+    first = answer(packed({**x, "goal": 1}))
+    if isinstance(first, int):
+        return first
+    loss = parts(first)["loss"]
+    if loss == 1:
+        again = answer(packed(by_loss(x, second_aim(x))))
+        return again if isinstance(again, int) else [1, *again[1:]]
+    return 18 if loss == 2 else first
 
 
 def diameters():
@@ -757,7 +771,7 @@ def limited_checks():
     """02, N5: "Goal 6 is goal 1 with that second pass". Where goal 1's check says within, or none is printed, goal 6 gives the same
     eight bytes. "If the loss check says over, the rung is found again by the loss method with 90 per cent of the limit in tenths,
     rounded down. Byte 0 of the answer is then 1 in place of 0": the rest is what goal 2 gives with that aim. With each service, on a
-    cylinder between two rows and on a wall at a row."""
+    cylinder between two rows and on a wall at a row; none is printed below 50.0 °C and above the seasonal rows."""
     r = Random(6)
     for flat in (False, True):
         for service in SERVICES:
@@ -767,14 +781,10 @@ def limited_checks():
                     t = r.randint(4_501, 6_500) if flat and service in (2, 4) else r.randint(300, 499)
                 x = limited(r, flat, check, service=service, t=t, ta=r.randint(-500, 250))
                 name = f"limited-{CHECKS[check]}-service-{service}-{SHAPES[flat]}"
-                alone = {**x, "goal": 1}
-                yield f"{name}-goal-1", alone, dict(second=0, loss=check)
-                wanted = parts(answer(packed(alone)))
+                yield f"{name}-goal-1", {**x, "goal": 1}, dict(second=0, loss=check)
                 if check == 1:
-                    again = by_loss(x, second_aim(x))
-                    yield f"{name}-goal-2", again, dict(second=0, loss=0)
-                    wanted = {**parts(answer(packed(again))), "second": 1}
-                yield f"{name}-goal-6", x, wanted
+                    yield f"{name}-goal-2", by_loss(x, second_aim(x)), dict(second=0, loss=0)
+                yield f"{name}-goal-6", x, parts(by_both(x))
 
 
 def limited_close():
@@ -804,7 +814,7 @@ def beside_film(x, k, loss, wanted):
 
 def limited_edges():
     """01: "A rung meets if under-have is at or above high need. It misses if over-have is below low need. Otherwise it is open." So of
-    the check after the first pass, and of the second pass: a nanometre tells them apart. The rungs that are missed leave the next."""
+    the check after the first pass, and of the second pass: a nanometre tells them apart. Where the second pass misses the rung, the next one meets."""
     r = Random(121)
     for width, D, k in (("small-cylinder", 150, 10), ("flat", 10_001, 50)):
         flat = width == "flat"
@@ -901,29 +911,31 @@ def first_refused():
     would be over."""
     r = Random(617)
     for flat in (False, True):
-        for name, sheet in (("17-loss-met", beyond_first), ("17-loss-over", beyond_first),
-                            ("18-loss-met", open_first), ("18-loss-over", open_first)):
-            x, wanted = sheet(r, flat, MISSES if name.endswith("over") else MEETS)
+        for name, sheet, check, wanted in (("17-loss-met", beyond_first, MEETS, 17), ("17-loss-over", beyond_first, MISSES, 17),
+                                           ("18-loss-met", open_first, MEETS, 18), ("18-loss-over", open_first, MISSES, 18)):
+            x = sheet(r, flat, check)
             for goal in (1, 6):
                 yield f"first-{name}-{SHAPES[flat]}-goal-{goal}", {**x, "goal": goal}, wanted
 
 
 def beyond_first(r, flat, check):
-    """A sheet of goal 6 that all rungs miss in the first pass, where the check of 300 mm would be as given; and 17."""
+    """A sheet of goal 6 that all rungs miss in the first pass, where the check of 300 mm would be as given. Where it would be within, the
+    loss method finds a rung."""
     while True:
         x = fields(r, 6, flat)
         y = aimed(x, have(x, 300)[1] * r.randint(1_001, 2_000) // 1_000)
         if allowed(y) and loss_check(y, 300) == check and (check == MISSES or found_by_loss(y)):
-            return y, 17
+            return y
 
 
 def open_first(r, flat, check):
-    """A sheet of goal 6 with an open rung in the first pass, where the check of that rung would be as given; and 18."""
+    """A sheet of goal 6 with an open rung in the first pass, where the check of that rung would be as given, and for which the loss
+    method finds a rung."""
     while True:
         k = 10 * r.randint(0, 10)
         x = open_at(r, 6, flat, k)
         if loss_check(x, k) == check and found_by_loss(x):
-            return x, 18
+            return x
 
 
 def found_by_loss(x):
@@ -1041,6 +1053,7 @@ def vectors():
             else:
                 assert not isinstance(result, int) and ordinary(x) == parts(result), (name, result, ordinary(x))
                 assert wanted.items() <= parts(result).items(), (name, result, wanted)
+            assert not isinstance(x, dict) or x["goal"] != 6 or result == by_both(x), (name, result)
             names.add(name)
             yield name, sheet, result
 
