@@ -1,7 +1,7 @@
 //! The thickness as a spreadsheet works it out: 64-bit floating-point numbers
 //! in SI units, a logarithm and a square root. It never says "too close".
 
-use crate::plain::{self, Flow, Method, Refusal, Shape, Sheet};
+use crate::plain::{self, Flow, Goal, Method, Refusal, Shape, Sheet};
 
 /// What the spreadsheet prints for a sheet.
 #[derive(Clone, Copy, Debug, PartialEq, Eq)]
@@ -124,8 +124,30 @@ fn surface_bound(sheet: &Sheet, case: &Case, provided: f64) -> i16 {
     sheet.temperature_at(tenths.min(f64::from(sheet.difference())) as i32)
 }
 
-/// The first rung where have is not below need, with its checks and bound;
-/// none if there is no such rung. Refusals 11 to 16 are the sheet's own.
+/// A thickness with its have.
+type Choice = (u16, f64);
+
+/// The first rung where have is not below need.
+fn choose(case: &Case, required: f64) -> Option<Choice> {
+    plain::ladder()
+        .map(|rung| (rung, case.provided(rung)))
+        .find(|&(_, provided)| provided >= required)
+}
+
+/// Goal 6: a rung that is over the loss limit gives way to the one for 90 per
+/// cent of it.
+fn choose_again(sheet: &Sheet, case: &Case, first: Choice) -> Option<Choice> {
+    let over = loss_check(sheet, case, first.1) == plain::OVER;
+    match plain::second_aim(sheet.service, sheet.pipe_temperature) {
+        Some(aim) if over && sheet.goal == Goal::LimitedEconomy => {
+            choose(case, case.required_for_loss(aim))
+        }
+        _ => Some(first),
+    }
+}
+
+/// The rung chosen, with its checks and bound; none if there is no such rung.
+/// Refusals 11 to 16 are the sheet's own.
 pub fn estimate(sheet: &[u8]) -> Result<Option<Estimate>, Refusal> {
     let sheet = plain::examine(sheet)?;
     let case = Case::new(&sheet);
@@ -134,10 +156,9 @@ pub fn estimate(sheet: &[u8]) -> Result<Option<Estimate>, Refusal> {
         Method::Loss => case.required_for_loss(sheet.loss_aim()),
         Method::Surface => case.required_for_surface(sheet.from_air(sheet.surface_aim())),
     };
-    let sufficient = plain::ladder()
-        .map(|rung| (rung, case.provided(rung)))
-        .find(|&(_, provided)| provided >= required);
-    Ok(sufficient.map(|(thickness, provided)| {
+    let first = choose(&case, required);
+    let chosen = first.and_then(|first| choose_again(&sheet, &case, first));
+    Ok(chosen.map(|(thickness, provided)| {
         let (loss_check, surface_check) = checks(&sheet, &case, provided);
         Estimate {
             shape: case.shape,

@@ -25,7 +25,7 @@ pub struct Field {
     /// The least value on the sheet of a cold line.
     pub cold_least: i32,
     pub greatest: i32,
-    /// Used for goals 1 and 5 only and zero otherwise.
+    /// Used for goals 1, 5 and 6 only and zero otherwise.
     pub economy_only: bool,
 }
 
@@ -96,7 +96,7 @@ pub const FIELDS: [Field; 9] = [
 ];
 
 /// 1 economy, 2 loss, 3 surface. "Goal 4 is cold surface", "goal 5 is cold
-/// economy".
+/// economy". "Goal 6 is goal 1 with that second pass."
 #[derive(Clone, Copy, Debug, PartialEq, Eq)]
 pub enum Goal {
     Economy = 1,
@@ -104,14 +104,16 @@ pub enum Goal {
     Surface = 3,
     ColdSurface = 4,
     ColdEconomy = 5,
+    LimitedEconomy = 6,
 }
 
-pub const GOALS: [Goal; 5] = [
+pub const GOALS: [Goal; 6] = [
     Goal::Economy,
     Goal::Loss,
     Goal::Surface,
     Goal::ColdSurface,
     Goal::ColdEconomy,
+    Goal::LimitedEconomy,
 ];
 
 /// The equation that gives a goal's need.
@@ -131,9 +133,10 @@ pub enum Flow {
 }
 
 impl Goal {
+    /// For goal 6 that of the first pass.
     pub fn method(self) -> Method {
         match self {
-            Goal::Economy | Goal::ColdEconomy => Method::Economy,
+            Goal::Economy | Goal::ColdEconomy | Goal::LimitedEconomy => Method::Economy,
             Goal::Loss => Method::Loss,
             Goal::Surface | Goal::ColdSurface => Method::Surface,
         }
@@ -141,7 +144,7 @@ impl Goal {
 
     pub fn flow(self) -> Flow {
         match self {
-            Goal::Economy | Goal::Loss | Goal::Surface => Flow::Outward,
+            Goal::Economy | Goal::Loss | Goal::Surface | Goal::LimitedEconomy => Flow::Outward,
             Goal::ColdSurface | Goal::ColdEconomy => Flow::Inward,
         }
     }
@@ -317,8 +320,8 @@ pub fn examine(sheet: &[u8]) -> Result<Sheet, Refusal> {
     if FIELDS.iter().any(|field| outside(field, goal, sheet)) {
         return Err(13);
     }
-    // 14: an unused field not zero, or goal 1 with an aim not zero. Goal 5's
-    // "aim is zero" too.
+    // 14: an unused field not zero, or goal 1 with an aim not zero. Of goals 5
+    // and 6 too the "aim is zero".
     let unused = FIELDS.iter().any(|field| stray(field, goal, sheet));
     if unused || (goal.method() == Method::Economy && unsigned_at(sheet, AIM_OFFSET) != 0) {
         return Err(14);
@@ -346,7 +349,7 @@ pub fn examine(sheet: &[u8]) -> Result<Sheet, Refusal> {
 }
 
 /// "Offsets 14–21 are used for goal 1 only." "Goal 5 uses offsets 14–21 as
-/// goal 1 does."
+/// goal 1 does", and goal 6 "is goal 1 with that second pass".
 pub fn used(field: &Field, goal: Goal) -> bool {
     goal.method() == Method::Economy || !field.economy_only
 }
@@ -511,7 +514,7 @@ fn root_of_quotient(numerator: u128, denominator: u128) -> Bracket {
     Bracket { lower, upper }
 }
 
-/// Need of the sheet's own goal.
+/// Need of the sheet's own goal, for goal 6 that of the first pass.
 pub fn required(sheet: &Sheet) -> Bracket {
     match sheet.goal.method() {
         Method::Economy => required_for_economy(sheet),
@@ -576,8 +579,7 @@ fn judge(provided: Bracket, required: Bracket) -> Verdict {
 
 /// "The first rung that doesn't miss is the thickness if it meets." Refusal
 /// 18 if it is open, 17 if all 31 rungs miss. Have comes with the thickness.
-fn choose(sheet: &Sheet) -> Result<(u16, Bracket), Refusal> {
-    let required = required(sheet);
+fn choose(sheet: &Sheet, required: Bracket) -> Result<(u16, Bracket), Refusal> {
     let mut logarithm = Logarithm::from_diameter(sheet.diameter);
     for rung in ladder() {
         let provided = provided(sheet, rung, &mut logarithm);
@@ -745,13 +747,41 @@ fn surface_bound(sheet: &Sheet, provided: Bracket) -> i16 {
     sheet.temperature_at(from_air)
 }
 
-/// The answer to a sheet: "Byte 0 is 0. Byte 1: 1 cylinder, 2 flat. Bytes 2–3:
-/// thickness in mm. Byte 4, loss check. Byte 5, surface check. Bytes 6–7:
-/// surface bound in 0.1 °C, signed."
+/// "90 per cent of the limit in tenths, rounded down."
+pub fn second_aim(service: Service, pipe_temperature: i16) -> Option<u16> {
+    let limit = loss_limit(service, pipe_temperature)?;
+    let aim = u32::from(limit) * 90 / 100;
+    Some(u16::try_from(aim).expect("at most the limit"))
+}
+
+/// The second pass of goal 6, from have of the first: "If the loss check says
+/// over, the rung is found again by the loss method with 90 per cent of the
+/// limit." "If the check says too close, the sheet gets 18."
+fn choose_again(sheet: &Sheet, provided: Bracket) -> Result<Option<(u16, Bracket)>, Refusal> {
+    if sheet.goal != Goal::LimitedEconomy {
+        return Ok(None);
+    }
+    match loss_check(sheet, provided) {
+        OVER => {
+            let aim = second_aim(sheet.service, sheet.pipe_temperature).expect("a limit");
+            choose(sheet, required_for_loss(sheet, aim.into())).map(Some)
+        }
+        TOO_CLOSE => Err(18),
+        _ => Ok(None),
+    }
+}
+
+/// The answer to a sheet: "Byte 0 is 0", but of a second pass "1 in place of
+/// 0". "Byte 1: 1 cylinder, 2 flat. Bytes 2–3: thickness in mm. Byte 4, loss
+/// check. Byte 5, surface check. Bytes 6–7: surface bound in 0.1 °C, signed."
+/// After a second pass "checks and bound are then those of the second rung".
 pub fn answer(sheet: &[u8]) -> Result<[u8; ANSWER_LENGTH], Refusal> {
     let sheet = examine(sheet)?;
-    let (thickness, provided) = choose(&sheet)?;
+    let first = choose(&sheet, required(&sheet))?;
+    let second = choose_again(&sheet, first.1)?;
+    let (thickness, provided) = second.unwrap_or(first);
     let mut answer = [0; ANSWER_LENGTH];
+    answer[0] = second.is_some().into();
     answer[1] = sheet.shape() as u8;
     answer[2..4].copy_from_slice(&thickness.to_be_bytes());
     answer[4..6].copy_from_slice(&checks(&sheet, provided));

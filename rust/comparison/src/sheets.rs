@@ -2,6 +2,7 @@
 
 mod draft;
 mod exact;
+mod limited;
 mod near;
 mod ordinary;
 mod random;
@@ -41,7 +42,7 @@ const fn kind(family: Family, name: &'static str, make: Maker) -> Kind {
 }
 
 /// Every kind, in the order in which they take turns.
-pub static KINDS: [Kind; 25] = [
+pub static KINDS: [Kind; 30] = [
     kind(Family::Ordinary, "office", ordinary::office),
     kind(Family::Ordinary, "anywhere", ordinary::anywhere),
     kind(Family::Ordinary, "diameter edge", ordinary::diameter_edge),
@@ -50,6 +51,12 @@ pub static KINDS: [Kind; 25] = [
     kind(Family::Ordinary, "end of range", ordinary::end_of_range),
     kind(Family::Ordinary, "about zero", ordinary::about_zero),
     kind(Family::Ordinary, "widest product", ordinary::widest_product),
+    kind(Family::Ordinary, "cheap heat", limited::cheap_heat),
+    kind(
+        Family::Ordinary,
+        "beyond the ladder",
+        limited::beyond_ladder,
+    ),
     kind(Family::Refused, "wrong length", refused::wrong_length),
     kind(Family::Refused, "unknown code", refused::unknown_code),
     kind(Family::Refused, "beyond range", refused::beyond_range),
@@ -67,6 +74,9 @@ pub static KINDS: [Kind; 25] = [
     kind(Family::Near, "exact wall", exact::wall),
     kind(Family::Near, "exact economy", exact::economy),
     kind(Family::Near, "bare", exact::bare),
+    kind(Family::Near, "near first check", limited::near_first_check),
+    kind(Family::Near, "near second rung", limited::near_second_rung),
+    kind(Family::Near, "exact limited", limited::exact),
 ];
 
 /// An endless run of sheets, the kinds taking turns.

@@ -48,13 +48,19 @@ fn flow_of(code: u8) -> Option<Flow> {
     goal.map(|goal| goal.flow())
 }
 
+/// Where an entry's answer begins.
+fn answer_slot(capacity: usize, entry: usize) -> usize {
+    HEADER_LENGTH + plain::SHEET_LENGTH * capacity + plain::ANSWER_LENGTH * entry
+}
+
 /// The state of a test: its sheets, how often each response came, and how many
-/// sheets of each goal were filed.
+/// sheets of each goal and answers of a second pass were filed.
 struct Trial {
     random: Random,
     pool: Pool,
     responses: BTreeMap<(&'static str, Refusal), usize>,
     filed: BTreeMap<u8, usize>,
+    second_passes: usize,
 }
 
 impl Trial {
@@ -64,6 +70,7 @@ impl Trial {
             pool: Pool::new(seed),
             responses: BTreeMap::new(),
             filed: BTreeMap::new(),
+            second_passes: 0,
         }
     }
 
@@ -87,6 +94,9 @@ impl Trial {
             println!("{goal:?} filed: {times}");
             assert!(times >= least, "{goal:?} was filed {times} times only");
         }
+        let times = self.second_passes;
+        println!("second passes filed: {times}");
+        assert!(times >= least, "{times} second passes were filed only");
     }
 
     /// Makes a book over bytes that hold something else.
@@ -103,6 +113,7 @@ impl Trial {
         let answer = self.count("file", both::file(book, &sheet))?;
         let goal = sheet[plain::GOAL_OFFSET];
         *self.filed.entry(goal).or_default() += 1;
+        self.second_passes += usize::from(answer[0]);
         Some((sheet, answer))
     }
 
@@ -160,10 +171,9 @@ impl Trial {
 
     /// One byte in the sheet slots, one in the answer slots.
     fn damage_slots(&mut self, book: &[u8], capacity: usize) {
-        let answers = HEADER_LENGTH + plain::SHEET_LENGTH * capacity;
         let arrays = [
             (HEADER_LENGTH, plain::SHEET_LENGTH),
-            (answers, plain::ANSWER_LENGTH),
+            (answer_slot(capacity, 0), plain::ANSWER_LENGTH),
         ];
         for (start, width) in arrays {
             let mut damaged = book.to_vec();
@@ -175,19 +185,35 @@ impl Trial {
     }
 
     /// Another goal in each sheet slot. A filed entry is refused if the goal is
-    /// unknown, if a hot line is said to be cold, or a cold one hot.
+    /// unknown, if a hot line is said to be cold, or a cold one hot. The answer
+    /// of a second pass is goal 6's alone.
     fn damage_goals(&mut self, book: &[u8], capacity: usize, entries: usize) {
         for entry in 0..capacity {
             let goal = HEADER_LENGTH + plain::SHEET_LENGTH * entry + plain::GOAL_OFFSET;
+            let second = book[answer_slot(capacity, entry)] == 1;
             for code in 0..=plain::GOALS.len() as u8 + 1 {
                 let mut damaged = book.to_vec();
                 damaged[goal] = code;
                 let response = both::read(&damaged, entry as u64);
                 if entry >= entries {
                     assert_eq!(response, Err(33));
-                } else if flow_of(code) != flow_of(book[goal]) {
+                } else if flow_of(code) != flow_of(book[goal]) || second && code != book[goal] {
                     assert_eq!(response, Err(35), "goal {code} in {book:?}");
                 }
+                self.count("read", response);
+            }
+        }
+    }
+
+    /// Another byte 0 in the answer slot of each entry.
+    fn damage_passes(&mut self, book: &[u8], capacity: usize, entries: usize) {
+        for entry in 0..entries {
+            let pass = answer_slot(capacity, entry);
+            for other in (0..=2).filter(|&other| other != book[pass]) {
+                let mut damaged = book.to_vec();
+                damaged[pass] = other;
+                let response = both::read(&damaged, entry as u64);
+                assert_eq!(response, Err(35), "byte 0 {other} in {book:?}");
                 self.count("read", response);
             }
         }
@@ -229,6 +255,7 @@ fn small_books() {
         trial.damage_header(&book);
         trial.damage_length(&book);
         trial.damage_goals(&book, capacity, entries);
+        trial.damage_passes(&book, capacity, entries);
         for _ in 0..10 {
             trial.damage_slots(&book, capacity);
         }

@@ -1,7 +1,8 @@
 //! The loss limit of hot lines at every temperature above −50.0 °C, for every
 //! service. Where there is one, the answers to two sheets leave only that, to
-//! the tenth of a W/m²; where there is none, one sheet says so. Cold lines have
-//! none, down to −196.0 °C.
+//! the tenth of a W/m², and those to two sheets of goal 6 only 90 per cent of
+//! it; where there is none, one sheet of each says so. Cold lines have none,
+//! down to −196.0 °C.
 
 use comparison::both;
 use comparison::plain::{self, Goal, Service, NONE_PRINTED, OVER, WITHIN};
@@ -21,17 +22,37 @@ fn wall(service: Service, pipe: i32, air: i32, coefficient: i32, aim: i32) -> Dr
     draft
 }
 
-/// The wall that has hardly more than it needs for a loss: α is the greatest
-/// for which the film makes up what whole rungs lack, 1 to 11 mm. It has less
-/// than it needs for a loss that is a tenth smaller.
-fn hardly_within(service: Service, pipe: i32, loss: i32) -> Draft {
+/// Whole rungs, in mm, and an α for a wall that has hardly more than it needs
+/// for a loss: α is the greatest for which the film makes up what the rungs
+/// lack, 1 to 11 mm. The wall has less than it needs for a loss that is a tenth
+/// smaller.
+fn hardly_enough(pipe: i32, loss: i32) -> (u16, i32) {
     let need = 100_000_000 * i64::from(pipe);
     let need = (need + i64::from(loss) - 1) / i64::from(loss);
     let layer = (need - 1_000_000) / 10_000_000 * 10_000_000;
     let coefficient = 10_000_000_000 / (need - layer);
     let have = layer + 10_000_000_000 / coefficient;
     assert!(have >= need && have < 100_000_000 * i64::from(pipe) / i64::from(loss - 1) - 1);
-    wall(service, pipe, 0, coefficient as i32, loss)
+    ((layer / 1_000_000) as u16, coefficient as i32)
+}
+
+fn hardly_within(service: Service, pipe: i32, loss: i32) -> Draft {
+    let (_, coefficient) = hardly_enough(pipe, loss);
+    wall(service, pipe, 0, coefficient, loss)
+}
+
+/// The same wall for goal 6: heat of the lowest price and a layer of the
+/// highest leave it bare on the first pass.
+fn limited(mut draft: Draft) -> Draft {
+    draft[plain::GOAL_OFFSET] = Goal::LimitedEconomy as u8;
+    for field in [plain::HEAT_PRICE, plain::HOURS] {
+        put_field(&mut draft, field, field.least);
+    }
+    for field in [plain::INSULATION_PRICE, plain::YEARLY_SHARE] {
+        put_field(&mut draft, field, field.greatest);
+    }
+    put(&mut draft, plain::AIM_OFFSET, 0);
+    draft
 }
 
 fn loss_check(sheet: &Draft) -> u8 {
@@ -51,17 +72,38 @@ fn assert_limit(service: Service, pipe: i32, limit: i32) {
     );
 }
 
+/// The rungs that have hardly enough for 90 per cent of the limit are given, and
+/// 10 mm more where they have hardly enough for a tenth above it.
+fn assert_second_aim(service: Service, pipe: i32, limit: i32) {
+    let aim = limit * 90 / 100;
+    for (loss, more) in [(aim, 0), (aim + 1, plain::GRADE)] {
+        let (rungs, coefficient) = hardly_enough(pipe, loss);
+        let sheet = limited(wall(service, pipe, 0, coefficient, 0));
+        let answer = both::answer(&sheet).expect("a thickness");
+        let [a, b] = (rungs + more).to_be_bytes();
+        assert_eq!(answer[..5], [1, 2, a, b, WITHIN], "{service:?} at {pipe}");
+    }
+}
+
+fn assert_no_limit(service: Service, pipe: i32) {
+    let sheet = wall(service, pipe, plain::AIR_TEMPERATURE.least, 1_000, 65_535);
+    assert_eq!(loss_check(&sheet), NONE_PRINTED, "{service:?} at {pipe}");
+    let answer = both::answer(&limited(sheet)).expect("a thickness");
+    let bare = [0, 2, 0, 0, NONE_PRINTED];
+    assert_eq!(answer[..5], bare, "{service:?} at {pipe}");
+}
+
 #[test]
 fn at_every_temperature() {
     let least = plain::PIPE_TEMPERATURE.least + 1;
     for service in plain::SERVICES {
         for pipe in least..=plain::PIPE_TEMPERATURE.greatest {
             match plain::loss_limit(service, pipe as i16) {
-                Some(limit) => assert_limit(service, pipe, limit.into()),
-                None => {
-                    let sheet = wall(service, pipe, plain::AIR_TEMPERATURE.least, 1_000, 65_535);
-                    assert_eq!(loss_check(&sheet), NONE_PRINTED, "{service:?} at {pipe}");
+                Some(limit) => {
+                    assert_limit(service, pipe, limit.into());
+                    assert_second_aim(service, pipe, limit.into());
                 }
+                None => assert_no_limit(service, pipe),
             }
         }
     }

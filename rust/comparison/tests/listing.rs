@@ -119,6 +119,38 @@ fn cold_answers_have_a_lower_bound() {
     assert_eq!(listing(sheets), HEADER.to_owned() + lines);
 }
 
+/// A wall 110.0 °C above the air with a film of 8 mm. For one hour economy
+/// leaves it bare, for 4,400 hours it needs 44 mm. The loss limit needs 47.3 mm,
+/// and 90 per cent of it 52.6 mm.
+fn economy_wall(goal: u8, line: i32, hours: i32) -> Draft {
+    let mut draft = [0; SHEET_LENGTH];
+    draft[..2].copy_from_slice(&[goal, 1]);
+    let fields = [
+        line, 12_000, 1_300, 200, 400, 500, 1_000, hours, 1_897, 1_897, 0,
+    ];
+    for (place, value) in fields.into_iter().enumerate() {
+        put(&mut draft, LINE_OFFSET + 2 * place, value);
+    }
+    draft
+}
+
+/// The top rung of the last wall has 302 mm, and the second pass needs 328 mm.
+#[test]
+fn economy_respects_the_loss_limit() {
+    let mut beyond = economy_wall(6, 4, 1);
+    for (offset, value) in [(6, 6_500), (8, -431), (10, 1_337), (12, 6_000)] {
+        put(&mut beyond, offset, value);
+    }
+    let walls = [(1, 1, 1), (6, 2, 1), (6, 3, 4_400)];
+    let walls = walls.map(|(goal, line, hours)| economy_wall(goal, line, hours));
+    let sheets = [walls.concat(), beyond.to_vec()].concat();
+    let lines = "1 flat 0 over over 130.0\n\
+                 2 flat 50 within within 35.2\n\
+                 3 flat 40 within within 38.4\n\
+                 4 refused 17\n";
+    assert_eq!(listing(sheets), HEADER.to_owned() + lines);
+}
+
 #[test]
 fn refused_sheets_and_a_short_piece_have_their_numbers() {
     let mut unknown = wall(3, 0);

@@ -1,9 +1,9 @@
-//! The figures that the papers print, and cold sheets worked by hand: answers
-//! from both implementations, the rest from the plain one.
+//! The figures that the papers print, and sheets of goals 4 to 6 worked by hand:
+//! answers from both implementations, the rest from the plain one.
 
 use comparison::both;
 use comparison::plain::{
-    self, Bracket, Field, Goal, Logarithm, Refusal, Service, NONE_PRINTED, WITHIN,
+    self, Bracket, Field, Goal, Logarithm, Refusal, Service, NONE_PRINTED, OVER, TOO_CLOSE, WITHIN,
 };
 use comparison::sheets::{put, Draft};
 
@@ -354,7 +354,7 @@ fn ends_of_the_pipe_temperature() {
         assert_eq!(at(draft, 6_500), Some(15));
         assert_eq!(at(draft, 6_501), Some(13));
     }
-    for (goal, draft) in [(1, economy), (2, cold), (3, cold)] {
+    for (goal, draft) in [(1, economy), (2, cold), (3, cold), (6, economy)] {
         let mut hot = with(draft, plain::AIR_TEMPERATURE.offset, -500);
         hot[plain::GOAL_OFFSET] = goal;
         for pipe in [-1_961, -1_960, -501] {
@@ -378,29 +378,32 @@ fn assert_ends(draft: Draft, (field, least, greatest): (Field, i32, i32)) {
     }
 }
 
+/// The ranges of the fields that every goal uses, but for t, and of those that
+/// economy uses.
+const COMMON: [(Field, i32, i32); 4] = [
+    (plain::DIAMETER, 100, 65_535),
+    (plain::AIR_TEMPERATURE, -500, 500),
+    (plain::CONDUCTIVITY, 1, 2_000),
+    (plain::COEFFICIENT, 100, 10_000),
+];
+const ECONOMY_ONLY: [(Field, i32, i32); 4] = [
+    (plain::HEAT_PRICE, 1, 65_535),
+    (plain::HOURS, 1, 8_784),
+    (plain::INSULATION_PRICE, 1, 65_535),
+    (plain::YEARLY_SHARE, 1, 10_000),
+];
+
 /// The pipe is 0.2 K below the coldest air. For a surface Δ / s is 2 at most,
 /// and heat of the lowest price asks for little.
 #[test]
 fn ends_of_the_other_cold_ranges() {
     let wall = cold_wall(-502, 200, -501);
     let economy = with(cold_economy(1), plain::PIPE_TEMPERATURE.offset, -502);
-    let common = [
-        (plain::DIAMETER, 100, 65_535),
-        (plain::AIR_TEMPERATURE, -500, 500),
-        (plain::CONDUCTIVITY, 1, 2_000),
-        (plain::COEFFICIENT, 100, 10_000),
-    ];
-    for range in common {
+    for range in COMMON {
         assert_ends(wall, range);
         assert_ends(economy, range);
     }
-    let economy_only = [
-        (plain::HEAT_PRICE, 1, 65_535),
-        (plain::HOURS, 1, 8_784),
-        (plain::INSULATION_PRICE, 1, 65_535),
-        (plain::YEARLY_SHARE, 1, 10_000),
-    ];
-    for range in economy_only {
+    for range in ECONOMY_ONLY {
         assert_ends(economy, range);
     }
 }
@@ -444,6 +447,188 @@ fn cold_fields_used_and_unused() {
     }
 }
 
+// Sheets of goal 6.
+
+/// A wall with its service, its t and ta, its L and α, and τ. P and S are the
+/// coefficient itself and f is 1,000, so that the square of the first need is
+/// 10⁶ × LτΔ. For one hour the first pass leaves the wall bare.
+fn limited(service: u8, temperatures: (i32, i32), layer: (i32, i32), hours: i32) -> Draft {
+    let ((pipe, air), (conductivity, coefficient)) = (temperatures, layer);
+    let fields = [
+        15,
+        12_000,
+        pipe,
+        air,
+        conductivity,
+        coefficient,
+        1_000,
+        hours,
+        1_897,
+        1_897,
+        0,
+    ];
+    sheet([6, service], fields)
+}
+
+/// The answer to a wall; the pass is byte 0.
+fn limited_answer(pass: u8, rung: u16, checks: [u8; 2], bound: i16) -> Result<[u8; 8], Refusal> {
+    let [[a, b], [c, d]] = [rung.to_be_bytes(), bound.to_be_bytes()];
+    Ok([pass, 2, a, b, checks[0], checks[1], c, d])
+}
+
+fn with_goal(mut draft: Draft, goal: Goal) -> Draft {
+    draft[plain::GOAL_OFFSET] = goal as u8;
+    draft
+}
+
+/// A film of 8 mm, and Δ is 1,100. The limit of 93.0 W/m² needs 44,000 / 930 =
+/// 47.3 mm and 83.7 need 52.6 mm. The first needs are 33, 44 and 54 mm. The
+/// quotients of the bound are 8,800 / 58, 8,800 / 48 and 8,800 / 58 again.
+#[test]
+fn the_first_rung_over_or_within() {
+    let wall = |hours| limited(1, (1_300, 200), (400, 500), hours);
+    let within = [WITHIN, WITHIN];
+    for hours in [1, 2_475] {
+        let second = limited_answer(1, 50, within, 200 + 152);
+        assert_eq!(both::answer(&wall(hours)), second);
+    }
+    let economy = both::answer(&with_goal(wall(2_475), Goal::Economy));
+    assert_eq!(economy, limited_answer(0, 30, [OVER, WITHIN], 200 + 232));
+    for (hours, rung, quotient) in [(4_400, 40, 184), (6_700, 50, 152)] {
+        let first = limited_answer(0, rung, within, 200 + quotient);
+        assert_eq!(both::answer(&wall(hours)), first);
+        let economy = with_goal(wall(hours), Goal::Economy);
+        assert_eq!(both::answer(&economy), first);
+    }
+}
+
+/// The seasonal limit of 163.0 W/m² needs 27.0 mm and 146.7 need 30.0: at 20 mm
+/// have is 28 mm, which is enough for the first only.
+#[test]
+fn ninety_per_cent_of_a_seasonal_limit() {
+    let wall = |hours| limited(2, (1_300, 200), (400, 500), hours);
+    let answer = |pass| limited_answer(pass, 30, [WITHIN, WITHIN], 200 + 232);
+    assert_eq!(both::answer(&wall(1)), answer(1));
+    assert_eq!(both::answer(&wall(2_475)), answer(0));
+}
+
+/// 90 per cent of 106.8 W/m² are 96.1, rounded down, and need 45,785,640 nm.
+/// At 40 mm have is 45,788,712 and 45,780,346. For 96.0 need is 45,833,334, and
+/// for 96.2 it is 45,738,046.
+#[test]
+fn ninety_per_cent_between_rows() {
+    let wall = |coefficient| limited(3, (1_300, 200), (400, coefficient), 1);
+    assert_eq!(thickness(&wall(691)), Ok(40));
+    assert_eq!(thickness(&wall(692)), Ok(50));
+    assert_eq!(both::answer(&wall(691)).map(|answer| answer[0]), Ok(1));
+}
+
+/// A film of 10 mm. 83.7 W/m² need 60,000,000 nm for a Δ of 600, and 60,100,000
+/// for 601. At 60 mm the quotient is 6,010 / 70.
+#[test]
+fn the_second_rung_meets_by_nothing() {
+    let wall = |air| limited(1, (1_000, air), (837, 837), 1);
+    let within = [WITHIN, WITHIN];
+    let expected = limited_answer(1, 50, within, 400 + 100);
+    assert_eq!(both::answer(&wall(400)), expected);
+    let expected = limited_answer(1, 60, within, 399 + 86);
+    assert_eq!(both::answer(&wall(399)), expected);
+}
+
+/// A film of 3,333,333⅓ nm. 83.7 W/m² need 23,333,333⅓ nm, as much as 20 mm
+/// have, and 93.0 need 21 mm. For 1,659 hours the first need is 18 mm.
+#[test]
+fn the_second_rung_is_open() {
+    let wall = |hours| limited(1, (1_000, 300), (279, 837), hours);
+    assert_eq!(both::answer(&wall(1)), Err(18));
+    let answer = both::answer(&wall(1_659)).unwrap();
+    assert_eq!(answer[..5], [0, 2, 0, 20, WITHIN]);
+}
+
+/// The bare wall loses its limit exactly. The film, and need with it, is
+/// 26,666,666⅔ nm or, for an L of 300, 20 mm.
+#[test]
+fn the_first_rung_is_too_close() {
+    let wall = |service, conductivity| limited(service, (1_000, 380), (conductivity, 150), 1);
+    let bare = |check| limited_answer(0, 0, [check, OVER], 1_000);
+    for service in [1, 3] {
+        assert_eq!(both::answer(&wall(service, 400)), Err(18));
+        let economy = with_goal(wall(service, 400), Goal::Economy);
+        assert_eq!(both::answer(&economy), bare(TOO_CLOSE));
+        assert_eq!(both::answer(&wall(service, 300)), bare(WITHIN));
+    }
+    for service in [2, 4] {
+        assert_eq!(both::answer(&wall(service, 400)), bare(WITHIN));
+    }
+}
+
+/// The film is 25 mm and Δ is 1,500. 93.0 W/m² need 322.6 mm, less than the top
+/// rung has, and 83.7 need 358.4 mm. On the first pass every rung misses where
+/// P is 1: the square of need is then 1,897 × 8,784 × 3×10¹².
+#[test]
+fn every_rung_misses() {
+    let wall = |hours| limited(1, (1_499, -1), (2_000, 800), hours);
+    assert_eq!(both::answer(&wall(1)), Err(17));
+    let dear_heat = with(wall(8_784), plain::INSULATION_PRICE.offset, 1);
+    assert_eq!(both::answer(&dear_heat), Err(17));
+    let economy = with_goal(dear_heat, Goal::Economy);
+    assert_eq!(both::answer(&economy), Err(17));
+}
+
+/// Where no limit is printed the first pass stands: below 50.0 °C, and for
+/// seasonal service from 450.0 °C or, between rows, above 400.0 °C.
+#[test]
+fn no_limit_to_respect() {
+    let beginning = |service, pipe| {
+        let wall = limited(service, (pipe, 200), (400, 500), 1);
+        let answer = both::answer(&wall).unwrap();
+        (answer[0], thickness(&wall) == Ok(0), answer[4])
+    };
+    for (service, greatest) in [(1, 6_500), (2, 4_499), (3, 6_500), (4, 4_000)] {
+        for pipe in [500, greatest] {
+            assert_eq!(beginning(service, pipe), (1, false, WITHIN), "t {pipe}");
+        }
+        assert_eq!(beginning(service, 499), (0, true, NONE_PRINTED));
+    }
+    for (service, pipe) in [(2, 4_500), (4, 4_001)] {
+        assert_eq!(beginning(service, pipe), (0, true, NONE_PRINTED));
+    }
+}
+
+/// Twice the film is 10 mm. 83.7 W/m² need 105.1 mm; 160 × ln 1.6 is 75.2 mm
+/// and 180 × ln 1.8 is 105.8 mm. The quotient is 11,000 / 115.8 = 94.99.
+#[test]
+fn a_pipe_over_its_limit() {
+    let wall = limited(1, (1_300, 200), (400, 800), 1);
+    let pipe = with(wall, plain::DIAMETER.offset, 1_000);
+    let answer = both::answer(&pipe);
+    let [c, d] = 295_i16.to_be_bytes();
+    assert_eq!(answer, Ok([1, 1, 0, 40, WITHIN, WITHIN, c, d]));
+}
+
+/// "Goal 6 is goal 1 with that second pass; its aim is zero."
+#[test]
+fn limited_fields() {
+    let wall = limited(2, (502, 200), (400, 500), 1);
+    for field in plain::FIELDS.into_iter().filter(|field| field.economy_only) {
+        let zero = with(wall, field.offset, 0);
+        assert_eq!(thickness(&zero), Err(13), "offset {}", field.offset);
+    }
+    for aim in [1, 100, 256, -1] {
+        let aimed = with(wall, plain::AIM_OFFSET, aim);
+        assert_eq!(thickness(&aimed), Err(14), "aim {aim}");
+    }
+    for air in [-500, -1, 0, 1, 500] {
+        for pipe in [air - 1, air] {
+            let wall = limited(2, (pipe.max(-500), air), (400, 500), 1);
+            assert_eq!(thickness(&wall), Err(15), "t {pipe}");
+        }
+    }
+    for range in COMMON.into_iter().chain(ECONOMY_ONLY) {
+        assert_ends(wall, range);
+    }
+}
+
 #[test]
 fn goals() {
     for code in 0..=u8::MAX {
@@ -451,8 +636,8 @@ fn goals() {
         draft[plain::GOAL_OFFSET] = code;
         let expected = match code {
             4 => Ok(20),
-            // The other four miss a price or have t on the wrong side.
-            1 | 5 => Err(13),
+            // The other five miss a price or have t on the wrong side.
+            1 | 5 | 6 => Err(13),
             2 | 3 => Err(15),
             _ => Err(12),
         };
@@ -469,6 +654,7 @@ fn good_wall(goal: Goal) -> Draft {
         Goal::Surface => sheet([3, 1], surface),
         Goal::ColdSurface => cold_wall(-300, 200, 100),
         Goal::ColdEconomy => cold_economy(1_000),
+        Goal::LimitedEconomy => limited(1, (1_300, 200), (400, 500), 4_400),
     }
 }
 
@@ -478,7 +664,7 @@ fn good_wall(goal: Goal) -> Draft {
 fn faults(goal: Goal) -> Vec<(Refusal, usize, i32)> {
     let aim = plain::AIM_OFFSET;
     let (stray, wrong_aim) = match goal {
-        Goal::Economy | Goal::ColdEconomy => (aim, None),
+        Goal::Economy | Goal::ColdEconomy | Goal::LimitedEconomy => (aim, None),
         Goal::Loss => (plain::HEAT_PRICE.offset, Some((16, aim, 0))),
         Goal::Surface | Goal::ColdSurface => (plain::HEAT_PRICE.offset, Some((16, aim, 200))),
     };

@@ -55,8 +55,8 @@ pub fn every_sort(random: &mut Random) -> Vec<(Goal, Service, Shape)> {
     sorts
 }
 
-/// Economy of hot lines and of cold ones.
-pub const ECONOMY: [Goal; 2] = [Goal::Economy, Goal::ColdEconomy];
+/// Economy of hot lines, of cold ones and within the loss limit.
+pub const ECONOMY: [Goal; 3] = [Goal::Economy, Goal::ColdEconomy, Goal::LimitedEconomy];
 
 /// The surface of hot lines and of cold ones.
 pub const SURFACE: [Goal; 2] = [Goal::Surface, Goal::ColdSurface];
@@ -73,7 +73,12 @@ pub fn any_sort(random: &mut Random) -> (Goal, Service, Shape) {
 
 /// A sort whose checks have limits.
 pub fn any_hot_sort(random: &mut Random) -> (Goal, Service, Shape) {
-    let goal = random.pick(&[Goal::Economy, Goal::Loss, Goal::Surface]);
+    let goal = random.pick(&[
+        Goal::Economy,
+        Goal::Loss,
+        Goal::Surface,
+        Goal::LimitedEconomy,
+    ]);
     sort_of(random, goal)
 }
 

@@ -24,7 +24,7 @@ fn smooth(random: &mut Random, least: i32, greatest: i32) -> i32 {
     }
 }
 
-fn in_range(field: Field, value: i32) -> Option<i32> {
+pub fn in_range(field: Field, value: i32) -> Option<i32> {
     (field.least..=field.greatest)
         .contains(&value)
         .then_some(value)
@@ -50,14 +50,14 @@ fn in_ratio(random: &mut Random, (a, b): (i64, i64), bounds: (i64, i64)) -> Opti
 }
 
 /// A flat wall with round figures.
-struct Wall {
+pub struct Wall {
     conductivity: i64,
     coefficient: i64,
-    rung: i64,
+    pub rung: i64,
 }
 
 impl Wall {
-    fn any(random: &mut Random) -> Wall {
+    pub fn any(random: &mut Random) -> Wall {
         let (l, alpha) = (plain::CONDUCTIVITY, plain::COEFFICIENT);
         Wall {
             conductivity: smooth(random, l.least, l.greatest).into(),
@@ -66,7 +66,13 @@ impl Wall {
         }
     }
 
-    fn draft(&self, random: &mut Random, goal: Goal, temperatures: (i32, i32), aim: i32) -> Draft {
+    pub fn draft(
+        &self,
+        random: &mut Random,
+        goal: Goal,
+        temperatures: (i32, i32),
+        aim: i32,
+    ) -> Draft {
         let (_, service, _) = any_sort(random);
         let mut draft = any_draft(random, (goal, service, Shape::Flat));
         put_field(&mut draft, plain::CONDUCTIVITY, self.conductivity as i32);
@@ -77,7 +83,7 @@ impl Wall {
     }
 
     /// Δ / aim for which k × 10⁶ + L × 10⁷ / α = LΔ × 10⁵ / aim.
-    fn loss_ratio(&self) -> (i64, i64) {
+    pub fn loss_ratio(&self) -> (i64, i64) {
         let (l, alpha) = (self.conductivity, self.coefficient);
         (10 * self.rung * alpha + 100 * l, l * alpha)
     }
@@ -100,7 +106,7 @@ fn largest(flow: Flow) -> i32 {
 }
 
 /// The Δ that has the ratio to a limit or its s, if it is a whole number.
-fn whole_difference(ratio: (i64, i64), divisor: i32) -> Option<i32> {
+pub fn whole_difference(ratio: (i64, i64), divisor: i32) -> Option<i32> {
     let product = ratio.0 * i64::from(divisor);
     let whole = product % ratio.1 == 0 && product / ratio.1 <= largest(Flow::Outward).into();
     whole.then_some((product / ratio.1) as i32)

@@ -23,7 +23,7 @@ fn any_diameter(random: &mut Random) -> i32 {
 }
 
 /// A draft of a goal with room for high rungs.
-fn setting(random: &mut Random, goal: Goal) -> Draft {
+pub fn setting(random: &mut Random, goal: Goal) -> Draft {
     let (_, service, shape) = any_sort(random);
     let mut draft = any_draft(random, (goal, service, shape));
     let diameter = any_diameter(random);
@@ -37,7 +37,7 @@ fn setting(random: &mut Random, goal: Goal) -> Draft {
 /// The value that would make have and need equal at some temperature. A value
 /// that is off by a part of itself leaves them apart by that part of the
 /// weight, in nanometres. The nearest whole number has to be in the range.
-struct Fit {
+pub struct Fit {
     value: f64,
     weight: f64,
     range: (i32, i32),
@@ -64,7 +64,7 @@ fn any_window(random: &mut Random, sheet: &Sheet, least: i32) -> Range<i32> {
 
 /// The Δ, in the window, and the value that bring have and need nearest to each
 /// other.
-fn nearest(window: Range<i32>, fit: impl Fn(i32) -> Fit) -> Option<(i32, i32)> {
+pub fn nearest(window: Range<i32>, fit: impl Fn(i32) -> Fit) -> Option<(i32, i32)> {
     let fits = window.filter_map(|difference| {
         let (value, distance) = fit(difference).rounded()?;
         Some((distance, difference, value))
@@ -151,7 +151,7 @@ fn target(random: &mut Random, goal: Goal) -> (Draft, Sheet, f64) {
 }
 
 /// 2L on a cylinder, L on a flat wall.
-fn conductivity(sheet: &Sheet) -> f64 {
+pub fn conductivity(sheet: &Sheet) -> f64 {
     let once = f64::from(sheet.conductivity);
     match sheet.shape() {
         Shape::Cylinder => 2.0 * once,
@@ -192,7 +192,7 @@ fn priced(random: &mut Random, mut draft: Draft, target: f64) -> Option<Draft> {
 }
 
 /// The square of need, for each tenth of Δ and before P and S divide it.
-fn heat_value(sheet: &Sheet) -> f64 {
+pub fn heat_value(sheet: &Sheet) -> f64 {
     let printed: f64 = match sheet.shape() {
         Shape::Cylinder => 3_795.0,
         Shape::Flat => 1_897.0,
@@ -250,18 +250,24 @@ pub fn surface_limit(random: &mut Random, sheets: &mut Batch) {
     );
 }
 
-/// A setting with a figure for the layer: have less the film.
+/// A setting with a figure for the layer at some rung.
 fn layer(random: &mut Random, goal: Goal) -> (Draft, Sheet, f64) {
     let draft = setting(random, goal);
     let sheet = sheet_of(&draft).expect("a good draft");
     let rung = any_rung(random).max(plain::GRADE);
-    let film = plain::provided_at(&sheet, 0);
-    let have = plain::provided_at(&sheet, rung);
+    let layer = layer_at(random, &sheet, rung);
+    (draft, sheet, layer)
+}
+
+/// A figure for the layer: have less the film.
+pub fn layer_at(random: &mut Random, sheet: &Sheet, rung: u16) -> f64 {
+    let film = plain::provided_at(sheet, 0);
+    let have = plain::provided_at(sheet, rung);
     let layer = Bracket {
         lower: have.lower - film.lower,
         upper: have.upper - film.upper,
     };
-    (draft, sheet, any_figure(random, layer))
+    any_figure(random, layer)
 }
 
 const COEFFICIENTS: (i32, i32) = (
@@ -269,7 +275,18 @@ const COEFFICIENTS: (i32, i32) = (
     plain::COEFFICIENT.greatest - 1,
 );
 
-/// The α whose film makes up what the layer lacks.
+/// The α whose film makes up what the layer lacks for a loss, at a Δ.
+pub fn film_fit(sheet: &Sheet, difference: i32, loss: u16, layer: f64) -> Fit {
+    let heat = conductivity(sheet) * f64::from(difference);
+    let film = heat * 1e5 / f64::from(loss) - layer;
+    Fit {
+        value: conductivity(sheet) * 1e7 / film,
+        weight: film,
+        range: COEFFICIENTS,
+    }
+}
+
+/// The α for which need at the limit is have.
 fn near_loss_limit(random: &mut Random) -> Option<Draft> {
     let (mut draft, sheet, layer) = layer(random, Goal::Loss);
     // Where none is printed, a limit that no film reaches.
@@ -280,13 +297,7 @@ fn near_loss_limit(random: &mut Random) -> Option<Draft> {
     let least = sheet.from_air(10 * plain::LOSS_LIMITS[0].temperature);
     let window = any_window(random, &sheet, least.max(1));
     let (difference, coefficient) = nearest(window, |difference| {
-        let heat = conductivity(&sheet) * f64::from(difference);
-        let film = heat * 1e5 / f64::from(limit(difference)) - layer;
-        Fit {
-            value: conductivity(&sheet) * 1e7 / film,
-            weight: film,
-            range: COEFFICIENTS,
-        }
+        film_fit(&sheet, difference, limit(difference), layer)
     })?;
     put_difference(&mut draft, &sheet, difference);
     put_field(&mut draft, plain::COEFFICIENT, coefficient);

@@ -14,7 +14,7 @@ pub fn office(random: &mut Random, sheets: &mut Batch) {
     }
 }
 
-fn office_draft(random: &mut Random, sort: (Goal, Service, Shape)) -> Draft {
+pub fn office_draft(random: &mut Random, sort: (Goal, Service, Shape)) -> Draft {
     let mut draft = any_draft(random, sort);
     let (goal, _, shape) = sort;
     let (least, greatest) = diameters(shape);
@@ -56,7 +56,7 @@ fn office_temperatures(random: &mut Random, flow: Flow) -> (i32, i32) {
 /// air.
 fn office_aim(random: &mut Random, goal: Goal, (pipe, air): (i32, i32)) -> i32 {
     match goal {
-        Goal::Economy | Goal::ColdEconomy => 0,
+        Goal::Economy | Goal::ColdEconomy | Goal::LimitedEconomy => 0,
         Goal::Loss => random.between(400, 3_000),
         Goal::Surface => random.between(400.max(air + 80), 590),
         Goal::ColdSurface => random.between((air - 80).max(pipe + 1), air - 10),
