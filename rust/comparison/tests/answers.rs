@@ -46,6 +46,12 @@ const SECOND: &str = "second pass";
 const SECOND_17: &str = "second pass 17";
 const SECOND_18: &str = "second pass 18";
 
+/// A second rung by its under-have less high need, or by low need less the
+/// over-have of the rung below it.
+const MEETS_BY_0: &str = "second rung meets by 0 nm";
+const MEETS_BY_1: &str = "second rung meets by 1 nm";
+const BELOW_MISSES_BY_1: &str = "rung below the second misses by 1 nm";
+
 const SEASONAL: [u16; 2] = [
     Service::Seasonal as u16,
     Service::SeasonalInterpolated as u16,
@@ -66,14 +72,16 @@ fn aim_label(goal: Goal, shape: u16, sign: i16) -> Label {
     ("surface aim", goal as u16, shape, (sign + 1) as u16)
 }
 
-fn thickness_of(answer: [u8; 8]) -> u16 {
-    u16::from_be_bytes([answer[2], answer[3]])
+/// The last number says whether t is that of a row of the loss table.
+fn passes_label(name: &'static str, sheet: &Sheet) -> Label {
+    let mut rows = plain::LOSS_LIMITS.iter();
+    let at_row = rows.any(|row| 10 * row.temperature == sheet.pipe_temperature);
+    let (service, shape) = (sheet.service as u16, sheet.shape() as u16);
+    (name, service, shape, at_row.into())
 }
 
-/// Whether t is that of a row of the loss table.
-fn at_row(sheet: &Sheet) -> bool {
-    let mut rows = plain::LOSS_LIMITS.iter();
-    rows.any(|row| 10 * row.temperature == sheet.pipe_temperature)
+fn thickness_of(answer: [u8; 8]) -> u16 {
+    u16::from_be_bytes([answer[2], answer[3]])
 }
 
 fn with_goal(sheet: &[u8], goal: Goal) -> Draft {
@@ -220,28 +228,27 @@ impl Spread {
     fn count_passes(&mut self, sheet: &[u8], examined: &Sheet, response: Response) {
         let (end, expected) = passes(sheet);
         assert_eq!(response, expected, "{sheet:?}");
-        let (service, shape) = (examined.service as u16, examined.shape() as u16);
-        self.count((end, service, shape, at_row(examined).into()));
+        self.count(passes_label(end, examined));
         if let (SECOND, Ok(answer)) = (end, response) {
-            let thickness = thickness_of(answer);
+            let (shape, thickness) = (answer[1].into(), thickness_of(answer));
             self.count(("second thickness", shape, thickness, 0));
-            self.count_second_edges(sheet, shape, thickness);
+            self.count_second_edges(&second_sheet(sheet), thickness);
         }
     }
 
-    /// By how much the rung of a second pass meets and the rung below it misses,
-    /// where that is hardly anything.
-    fn count_second_edges(&mut self, sheet: &[u8], shape: u16, thickness: u16) {
-        let sheet = plain::examine(&second_sheet(sheet)).expect("a good sheet");
+    /// The rung of a second pass meets by hardly anything, or the rung below it
+    /// misses by hardly anything.
+    fn count_second_edges(&mut self, sheet: &[u8], thickness: u16) {
+        let sheet = plain::examine(sheet).expect("a good sheet");
         let need = plain::required(&sheet);
-        let beyond = plain::provided_at(&sheet, thickness).lower - need.upper;
-        let below = plain::provided_at(&sheet, thickness - plain::GRADE);
-        let short = need.lower - below.upper;
-        if beyond <= 1 {
-            self.count(("second rung meets by", shape, beyond as u16, 0));
+        match plain::provided_at(&sheet, thickness).lower - need.upper {
+            0 => self.count(passes_label(MEETS_BY_0, &sheet)),
+            1 => self.count(passes_label(MEETS_BY_1, &sheet)),
+            _ => {}
         }
-        if short <= 1 {
-            self.count(("rung below misses by", shape, short as u16, 0));
+        let below = plain::provided_at(&sheet, thickness - plain::GRADE);
+        if need.lower - below.upper == 1 {
+            self.count(passes_label(BELOW_MISSES_BY_1, &sheet));
         }
     }
 
@@ -388,6 +395,9 @@ fn assert_every_pass(spread: &Spread, service: u16, shape: u16) {
         for end in [TOO_CLOSE, SECOND_18] {
             spread.assert_at_least(100, (end, service, shape, at_row));
         }
+        for edge in [MEETS_BY_0, MEETS_BY_1, BELOW_MISSES_BY_1] {
+            spread.assert_at_least(5, (edge, service, shape, at_row));
+        }
         if seasonal && shape == Shape::Cylinder as u16 {
             spread.assert_none((SECOND_17, service, shape, at_row));
         } else {
@@ -404,17 +414,12 @@ fn assert_every_pass(spread: &Spread, service: u16, shape: u16) {
     }
 }
 
-/// Every thickness of a second pass, and rungs that meet or miss by hardly
-/// anything. The first rung is over the limit, so the second is never rung 0.
+/// The first rung is over the limit, so the second is never rung 0.
 fn assert_every_second_rung(spread: &Spread, shape: u16) {
     spread.assert_none(("second thickness", shape, 0, 0));
     for thickness in plain::ladder().skip(1) {
         spread.assert_at_least(300, ("second thickness", shape, thickness, 0));
     }
-    for nanometres in [0, 1] {
-        spread.assert_at_least(150, ("second rung meets by", shape, nanometres, 0));
-    }
-    spread.assert_at_least(150, ("rung below misses by", shape, 1, 0));
 }
 
 #[test]
