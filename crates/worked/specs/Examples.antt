@@ -1,4 +1,4 @@
--- Answered sheets, for each goal and with each outcome of the checks, one with an unknown service, and cold sheets that are refused. The
+-- Answered sheets, for each goal and with each outcome of the checks, one with an unknown service, and cold and limited sheets that are refused. The
 -- hot economy sheets are 01's ("D 270 gives 20, D 320 gives 30"); the other answers are computed by tools/sheet.py, which shares nothing
 -- with the crates.
 -- Assumes nothing.
@@ -9,7 +9,7 @@ use Rattle.sheet.specs.Refusals.{response_to}
 use Rattle.worked.specs.Sheets.{Gives}
 
 -- an economy sheet, hot or cold
-abbrev economy_of : (goal D t ta aim : ℕ) → List ℕ
+abbrev pub economy_of : (goal D t ta aim : ℕ) → List ℕ
 economy_of goal D t ta aim =
     goal ∷ 1 ∷ (bytes_of 2 0 ++ bytes_of 2 D ++ bytes_of 2 t ++ bytes_of 2 ta ++ bytes_of 2 333 ++ bytes_of 2 2_048 ++ bytes_of 2 7_500 ++ bytes_of 2 2_880 ++ bytes_of 2 1_600 ++ bytes_of 2 2_296 ++ bytes_of 2 aim)
 
@@ -51,7 +51,7 @@ pub record ColdExamples : Type 0 where
   pub across_zero : Answers (sheet_of 4 1 1_080 65_486 250 400 1_163 200) (0 ∷ 1 ∷ 0 ∷ 20 ∷ 3 ∷ 0 ∷ 0 ∷ 211 ∷ [])
   pub next_to_zero : Answers (sheet_of 4 1 570 65_535 1 10 100 0) (0 ∷ 1 ∷ 0 ∷ 10 ∷ 3 ∷ 0 ∷ 0 ∷ 0 ∷ [])
   -- "Refusals 12 to 16 read these conditions for goals 4 and 5"
-  pub goal_6 : response_to (economy_of 6 320 70 207 0) ≡ refused 12
+  pub goal_7 : response_to (economy_of 7 320 70 207 0) ≡ refused 12
   -- "down to −1,960", and no further; at −50.1 °C a hot wall is out of range, and a cold one is not
   pub nitrogen : Answers (sheet_of 4 3 12_000 63_576 200 200 800 150) (0 ∷ 2 ∷ 0 ∷ 110 ∷ 3 ∷ 0 ∷ 0 ∷ 152 ∷ [])
   pub colder : response_to (sheet_of 4 3 12_000 63_575 200 200 800 150) ≡ refused 13
@@ -69,3 +69,40 @@ pub record ColdExamples : Type 0 where
   -- "all 31 rungs miss", "the first rung that doesn't miss is open"
   pub beyond_the_ladder : response_to (sheet_of 4 1 12_000 64_636 200 400 800 182) ≡ refused 17
   pub open_rung : response_to (sheet_of 4 1 20_000 63_576 500 1 10_000 63_577) ≡ refused 18
+
+-- a sheet of goal 6
+abbrev limited_of : (service D t ta L α f τ P S : ℕ) → List ℕ
+limited_of service D t ta L α f τ P S =
+    6 ∷ service ∷ (bytes_of 2 0 ++ bytes_of 2 D ++ bytes_of 2 t ++ bytes_of 2 ta ++ bytes_of 2 L ++ bytes_of 2 α ++ bytes_of 2 f ++ bytes_of 2 τ ++ bytes_of 2 P ++ bytes_of 2 S ++ bytes_of 2 0)
+
+-- a wall with heat so cheap that the first pass leaves it bare: need is 135,442 to 135,443 nm, and have at 0 mm 10¹⁰ / α
+abbrev pub bare_wall : (service t ta α : ℕ) → List ℕ
+bare_wall service t ta α = limited_of service 20_000 t ta 1_000 α 1 2_880 65_535 10_000
+
+-- a wall that no rung is enough for at 104.4 W/m², and a tube; both are bare, or nearly so, after the first pass
+abbrev pub hot_wall : List ℕ
+hot_wall = limited_of 1 20_000 1_500 65_365 2_000 1_000 1 2_880 65_535 10_000
+
+abbrev pub tube : List ℕ
+tube = limited_of 2 150 576 200 438 4_625 240 2_300 51_664 8_352
+
+-- 02, N5: "Economy that respects the loss limit."
+pub record LimitedExamples : Type 0 where
+  -- within: at 116.0 W/m² need is 10⁸ nm, and so is have; with service 2 and α 174, at 203.0, there is more than is needed
+  pub within : Answers (bare_wall 1 1_500 340 100) (0 ∷ 2 ∷ 0 ∷ 0 ∷ 0 ∷ 1 ∷ 5 ∷ 220 ∷ []) × Answers (bare_wall 2 1_500 340 174) (0 ∷ 2 ∷ 0 ∷ 0 ∷ 0 ∷ 1 ∷ 5 ∷ 220 ∷ [])
+  -- none printed: goal 1's answer
+  pub none_printed : Answers (economy_of 6 270 207 70 0) (0 ∷ 1 ∷ 0 ∷ 20 ∷ 3 ∷ 0 ∷ 0 ∷ 77 ∷ [])
+  -- "If the check says too close, the sheet gets 18.": have and need at 203.0 W/m² are both 10¹⁰ / 175
+  pub close : response_to (bare_wall 2 1_500 340 175) ≡ refused 18
+  -- over, and found again at 104.4 W/m², where need is 10¹⁰ / 90; the next α leaves 100 mm open there, and the next misses
+  pub over : Answers (bare_wall 1 1_500 340 899) (1 ∷ 2 ∷ 0 ∷ 100 ∷ 0 ∷ 0 ∷ 1 ∷ 201 ∷ [])
+  pub second_open : response_to (bare_wall 1 1_500 340 900) ≡ refused 18
+  pub over_next : Answers (bare_wall 1 1_500 340 901) (1 ∷ 2 ∷ 0 ∷ 110 ∷ 0 ∷ 0 ∷ 1 ∷ 191 ∷ [])
+  -- "90 per cent of the limit in tenths, rounded down": of 1,068 it is 961; 100 mm would meet 962
+  pub rounded_down : Answers (bare_wall 3 1_300 140 485) (1 ∷ 2 ∷ 0 ∷ 110 ∷ 0 ∷ 0 ∷ 1 ∷ 68 ∷ [])
+  -- the second pass misses at every rung
+  pub second_beyond : response_to hot_wall ≡ refused 17
+  -- a tube
+  pub of_tube : Answers tube (1 ∷ 1 ∷ 0 ∷ 10 ∷ 0 ∷ 0 ∷ 0 ∷ 223 ∷ [])
+  -- "its aim is zero"
+  pub aim_of_goal_6 : response_to (economy_of 6 270 207 70 1) ≡ refused 14
