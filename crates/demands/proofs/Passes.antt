@@ -1,19 +1,16 @@
 -- Which passes a sheet comes to, as the definitions decide it and as demand 2 states it.
 -- Assumes nothing.
-use mathlib.Core.Path.{◌≡◌, refl, sym, ap, ◌∙◌}
-use mathlib.Core.Bool.{Bool, true, false, cond, ◌&&◌, ◌||◌, and-false, and-eq-true_iff}
+use mathlib.Core.Path.{◌≡◌, refl, ap, ◌∙◌}
+use mathlib.Core.Bool.{Bool, true, false, cond, ◌||◌, and-false, and-eq-true_iff}
 use mathlib.Core.Logic.{◌⊎◌, inl, inr}
-use Prim.Native.Nat.{ℕ, ◌<◌}
-use native.Mathlib.Omega.{arith}
-use lib.Dec.{ltb}
-use borrow.Author.Tests.{lt-ltb, le-ltb, ltb-true}
+use borrow.Author.Tests.{lt-ltb, ltb-true}
 use Rattle.std.specs.Prelude.{Option, Some, None}
-use Rattle.lengths.specs.Ladder.{rungs, thickness_at}
+use Rattle.lengths.specs.Ladder.{rungs}
 use Rattle.requirement.specs.declared.Goal.{Goal}
 use Rattle.verdict.specs.declared.Verdict.{Verdict}
 use Rattle.verdict.specs.declared.Verdict.TheVariants.{Sufficient, Insufficient, Undecided}
-use Rattle.verdict.specs.Verdict.{not_insufficient, is_sufficient}
-use Rattle.verdict.proofs.FirstRung.{misses_before, first_is, first_none}
+use Rattle.verdict.specs.Verdict.{not_insufficient}
+use Rattle.verdict.proofs.FirstRung.{sufficient_if, misses_before, first_is, first_none}
 use Rattle.answer.specs.declared.Pass.{Pass}
 use Rattle.answer.specs.declared.Pass.TheVariants.{First, Second}
 use Rattle.sheet.specs.declared.fields.Sheet.{Sheet}
@@ -37,11 +34,6 @@ close (Some Insufficient) e = cc
 close (Some Undecided) e = refl
 close None e = cc
 
-is_enough : (x : Verdict) → is_sufficient x ≡ true → x ≡ Sufficient
-is_enough Sufficient e = refl
-is_enough Insufficient e = cc
-is_enough Undecided e = cc
-
 module _ (s : Sheet) where
   -- the rung that a search finds is the first that does not miss
   pub found_first : (goal : Goal) (f : Found s goal) → first_by s goal ≡ f.rung
@@ -53,7 +45,7 @@ module _ (s : Sheet) where
   pub found : (goal : Goal) → succeeds s goal ≡ true → Found s goal
   found goal e =
       let both = (and-eq-true_iff _ _).0 e in
-      record { rung = first_by s goal; on_ladder = ltb-true _ _ both.0; sufficient = is_enough _ both.1; first = misses_before (verdicts_by s goal) }
+      record { rung = first_by s goal; on_ladder = ltb-true _ _ both.0; sufficient = sufficient_if _ both.1; first = misses_before (verdicts_by s goal) }
 
   -- the loss check between the passes
   pub check_is : (v : Verdict) → Checked s v → check_between s ≡ Some v

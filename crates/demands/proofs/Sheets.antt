@@ -1,6 +1,6 @@
 -- What demand 2 says of a sheet.
 -- Assumes nothing.
-use mathlib.Core.Path.{◌≡◌, refl, ◌∙◌, ap}
+use mathlib.Core.Path.{◌≡◌, refl, ◌∙◌}
 use mathlib.Core.Bool.{true, false, or-true}
 use mathlib.Core.Logic.{inl, inr}
 use mathlib.Core.List.{List, [], ◌∷◌, ◌++◌}
@@ -12,10 +12,8 @@ use Rattle.lengths.specs.Ladder.{rungs, thickness_at}
 use Rattle.refusals.specs.Cases.{Case, case, NoneHolds}
 use Rattle.refusals.specs.Response.{refused, complete}
 use Rattle.refusals.proofs.Response.{later, absent, completed, behind, front}
-use Rattle.verdict.specs.declared.Verdict.{Verdict}
-use Rattle.verdict.specs.declared.Verdict.TheVariants.{Sufficient, Insufficient, Undecided}
-use Rattle.verdict.specs.Verdict.{not_insufficient, is_undecided}
-use Rattle.verdict.proofs.FirstRung.{first_within, misses_before, first_not_insufficient_lem, first_none}
+use Rattle.verdict.specs.declared.Verdict.TheVariants.{Sufficient, Undecided}
+use Rattle.verdict.proofs.FirstRung.{sufficient_unless, undecided_if, first_within, misses_before, first_not_insufficient_lem, first_none}
 use Rattle.big_endian.proofs.Numerals.{number_bytes}
 use Rattle.big_endian.specs.Bytes.{big_endian, bytes_of}
 use Rattle.temperatures.specs.Temperature.{decoded as signed, encoded as twos_complement}
@@ -25,8 +23,8 @@ use Rattle.answer.specs.declared.Answer.{Answer}
 use Rattle.answer.specs.Answer.{encoded}
 use Rattle.sheet.specs.declared.fields.Sheet.{Sheet}
 use Rattle.sheet.specs.Sheet.{decoded, goal_of}
-use Rattle.sheet.specs.Search.{verdicts_by, first_by}
-use Rattle.sheet.specs.Passes.{goal_in, succeeds, check_between, too_close, deciding_pass, deciding, verdicts, chosen}
+use Rattle.sheet.specs.Search.{verdicts_by}
+use Rattle.sheet.specs.Passes.{goal_in, check_between, too_close, deciding_pass, verdicts, chosen}
 use Rattle.sheet.specs.Answer.{surface_bound, answer_of, answer}
 use Rattle.sheet.specs.Refusals.{field_cases, ladder_cases, cases, response_to}
 use Rattle.sheet.specs.Admitted.{Admitted}
@@ -49,11 +47,6 @@ pub record Answered (sheet : List ℕ) : Type 0 where
   pub enough : verdicts (decoded sheet) (chosen (decoded sheet)) ≡ Sufficient
   pub far : too_close (check_between (decoded sheet)) ≡ false
 
-sufficient : (x : Verdict) → not_insufficient x ≡ true → is_undecided x ≡ false → x ≡ Sufficient
-sufficient Sufficient t u = refl
-sufficient Insufficient t u = cc
-sufficient Undecided t u = cc
-
 pub answered : (sheet bytes : List ℕ) → response_to sheet ≡ complete bytes → Answered sheet × (answer sheet ≡ bytes)
 unfolding NoneHolds
 answered sheet bytes h =
@@ -63,7 +56,7 @@ answered sheet bytes h =
     let not_all : ¬ (chosen s ≡ rungs) = eqb-false _ _ none.1.0 in
     let lt : chosen s < rungs = omega (arith, first_within (verdicts s)) in
     let decided = neither _ _ none.1.1.0 in
-    (record { admitted = admitted s none.0.1; found = lt; enough = sufficient _ (first_not_insufficient_lem (verdicts s) lt) decided.0; far = decided.1 }, got.1)
+    (record { admitted = admitted s none.0.1; found = lt; enough = sufficient_unless _ (first_not_insufficient_lem (verdicts s) lt) decided.0; far = decided.1 }, got.1)
 
 -- the numbers in an answer's bytes, of fields that fit theirs
 module _ (a : Answer) where
@@ -99,11 +92,6 @@ answer_to sheet known =
       bound = encoded_bound (answer_of s (chosen s)) (bound_fits s.flow s.temperature s.ambient _ (omega (arith, known.admitted.temperature_to)) (omega (arith, known.admitted.ambient_to)));
     }
 
-undecided : (x : Verdict) → is_undecided x ≡ true → x ≡ Undecided
-undecided Sufficient e = cc
-undecided Insufficient e = cc
-undecided Undecided e = refl
-
 module _ (sheet : List ℕ) where
   abbrev s : Sheet
   s = decoded sheet
@@ -129,7 +117,7 @@ module _ (sheet : List ℕ) where
       let some : ¬ (chosen s ≡ rungs) = eqb-false _ _ end.0.0 in
       let lt : chosen s < rungs = omega (arith, first_within (verdicts s)) in
       (got.0, elim (either _ _ (front 18 (open_or_close s) [] (answer sheet) refl end.1)) [
-        | inl u ↦ open_in (deciding_pass s) (reaches s (deciding_pass s) refl) (chosen s, lt, undecided _ u, misses_before (verdicts s))
+        | inl u ↦ open_in (deciding_pass s) (reaches s (deciding_pass s) refl) (chosen s, lt, undecided_if _ u, misses_before (verdicts s))
         | inr c ↦ too_near (checked s Undecided (close (check_between s) c))
       ])
 

@@ -17,9 +17,9 @@ use Rattle.requirement.specs.declared.Goal.{Goal}
 use Rattle.verdict.specs.declared.Verdict.{Verdict}
 use Rattle.verdict.specs.declared.Verdict.TheVariants.{Sufficient, Insufficient, Undecided}
 use Rattle.verdict.specs.declared.choice.Rung.{Rung}
-use Rattle.verdict.specs.Verdict.{not_insufficient, is_sufficient, is_undecided}
+use Rattle.verdict.specs.Verdict.{is_undecided}
 use Rattle.verdict.specs.Choice.{rung}
-use Rattle.verdict.proofs.FirstRung.{first_within, first_not_insufficient_lem}
+use Rattle.verdict.proofs.FirstRung.{sufficient_unless, undecided_if, first_within, first_not_insufficient_lem}
 use Rattle.answer.specs.declared.Pass.{Pass}
 use Rattle.sheet.specs.declared.fields.Sheet.{Sheet}
 use Rattle.sheet.specs.Sheet.{goal_of}
@@ -29,17 +29,6 @@ use Rattle.sheet.specs.Passes.{goal_in, succeeds, check_between, pass_after, too
 use Rattle.sheet.specs.Refusals.{ladder_cases}
 use Rattle.sheet.proofs.Ladder.{all_insufficient, first_undecided, first_decided}
 use Rattle.outcome.specs.Pass.{pass_by}
-
--- a verdict that does not miss and is not open
-sufficient : (x : Verdict) → not_insufficient x ≡ true → is_undecided x ≡ false → is_sufficient x ≡ true
-sufficient Sufficient t u = refl
-sufficient Insufficient t u = cc
-sufficient Undecided t u = cc
-
-not_sufficient : (x : Verdict) → is_undecided x ≡ true → is_sufficient x ≡ false
-not_sufficient Sufficient u = cc
-not_sufficient Insufficient u = refl
-not_sufficient Undecided u = refl
 
 -- what comes after a loss check between the passes
 abbrev pub next : Option Verdict → Result Pass Refusal
@@ -74,10 +63,10 @@ module _ (s : Sheet) where
       go :
           (a b : Bool) → ltb (first_by s goal) rungs ≡ a → is_undecided (verdicts_by s goal (first_by s goal)) ≡ b →
           Told goal (cond a (cond b (Err TooClose) (Ok (rung s.line (first_by s goal)))) (Err NoneSufficient))
-      go true true e f = rw (e, not_sufficient _ f)
+      go true true e f = rw (e, undecided_if _ f)
       go true false e f =
           let lt = ltb-true (first_by s goal) rungs e in
-          record { is = refl; on_ladder = lt; succeeded = rw (e, sufficient _ (first_not_insufficient_lem (verdicts_by s goal) lt) f) }
+          record { is = refl; on_ladder = lt; succeeded = rw (e, sufficient_unless _ (first_not_insufficient_lem (verdicts_by s goal) lt) f) }
       go false b e f = rw e
 
   -- the loss check between the passes, where the first found none, and where it found r

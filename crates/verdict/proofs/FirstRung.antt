@@ -9,13 +9,28 @@ use Rattle.roots.proofs.Least.{least_within, least_before, least_found}
 use Rattle.lengths.specs.Ladder.{rungs}
 use Rattle.verdict.specs.declared.Verdict.{Verdict}
 use Rattle.verdict.specs.declared.Verdict.TheVariants.{Sufficient, Insufficient, Undecided}
-use Rattle.verdict.specs.Verdict.{not_insufficient, first_not_insufficient}
+use Rattle.verdict.specs.Verdict.{not_insufficient, is_sufficient, is_undecided, first_not_insufficient}
 
--- What the test `not_insufficient` says of a verdict.
+-- What the tests say of a verdict.
 pub insufficient_unless : (x : Verdict) → not_insufficient x ≡ false → x ≡ Insufficient
 insufficient_unless Sufficient e = cc
 insufficient_unless Insufficient e = refl
 insufficient_unless Undecided e = cc
+
+pub sufficient_if : (x : Verdict) → is_sufficient x ≡ true → x ≡ Sufficient
+sufficient_if Sufficient e = refl
+sufficient_if Insufficient e = cc
+sufficient_if Undecided e = cc
+
+pub sufficient_unless : (x : Verdict) → not_insufficient x ≡ true → is_undecided x ≡ false → x ≡ Sufficient
+sufficient_unless Sufficient t u = refl
+sufficient_unless Insufficient t u = cc
+sufficient_unless Undecided t u = cc
+
+pub undecided_if : (x : Verdict) → is_undecided x ≡ true → x ≡ Undecided
+undecided_if Sufficient e = cc
+undecided_if Insufficient e = cc
+undecided_if Undecided e = refl
 
 not_both : {x : Verdict} → x ≡ Insufficient → not_insufficient x ≡ true → ⊥
 not_both e t = let z : not_insufficient Insufficient ≡ true = rw e at t in false≢true z
