@@ -1,11 +1,17 @@
 -- The figures of docs/METHOD.md, by computation.
 -- Assumes nothing.
-use mathlib.Core.Path.{refl}
+use mathlib.Core.Path.{◌≡◌, refl, sym}
 use mathlib.Core.List.{flat_map}
+use native.Mathlib.Nat.{lt_of_le_of_lt}
+use native.Mathlib.Omega.{arith}
+use Rattle.fractions.specs.Fraction.{Fraction, ◌over◌}
 use Rattle.quadrature.specs.Sums.{summed}
 use Rattle.quadrature.specs.Figures.{lower_step, upper_step}
 use Rattle.quadrature.specs.Cuttings.{cut_sum}
 use Rattle.roots.specs.Least.{least}
+use Rattle.roots.specs.Root.{floor_root, ceiling_root}
+use Rattle.roots.proofs.Squares.{square_le}
+use Rattle.roots.proofs.Roots.{floor_root_is, ceiling_root_is}
 use Rattle.requirement.specs.Required.{requirement, enclosing}
 use Rattle.provision.specs.Provided.{insulation, film, insulation_bounds, film_bounds, provided}
 use Rattle.verdict.specs.Verdict.{first_not_insufficient}
@@ -20,7 +26,7 @@ use Rattle.sheet.specs.Passes.{check_between}
 use Rattle.sheet.specs.Answer.{surface_bound, answer_of}
 use Rattle.worked.proofs.Examples.{low, high}
 use Rattle.book.specs.Refusals.{same_bytes}
-use Rattle.method.specs.Method.{Cylinder, Hotter, Between, FlatWall, BetweenRows, ColdLine, ColdWall, Entry, Method}
+use Rattle.method.specs.Method.{Cylinder, Hotter, Between, FlatWall, BetweenRows, SecondPass, ColdLine, ColdWall, Entry, Method}
 
 the_cylinder : Cylinder
 unfolding summed lower_step upper_step least insulation film insulation_bounds film_bounds provided requirement enclosing first_not_insufficient big_endian bytes_of decoded neighbours loss_limit loss_check surface_check check_between surface_bound encoded answer_of first_fault respond
@@ -112,6 +118,43 @@ between_rows =
       answer_by_row = refl;
     }
 
+-- the economy requirement of the first pass: 3,598,609,000 × 1,000 × 400 × 4,000 × 1,100 / (3,000 × 2,296) under the root
+abbrev radicand : Fraction
+radicand = 6_333_551_840_000_000_000_000 over 6_888_000
+
+cheap_low : floor_root radicand ≡ 30_323_344
+cheap_low = sym (floor_root_is radicand (omega arith) 30_323_344 (omega arith) (omega arith))
+
+cheap_high : ceiling_root radicand ≡ 30_323_345
+cheap_high =
+    sym (ceiling_root_is radicand (omega arith) 30_323_345 (omega arith)
+    (λ x lt. lt_of_le_of_lt (square_le {x = x} {y = 30_323_344} radicand.den (omega arith)) (omega arith)))
+
+a_second_pass : SecondPass
+unfolding summed lower_step upper_step least insulation film insulation_bounds film_bounds provided requirement enclosing first_not_insufficient big_endian bytes_of decoded neighbours loss_limit loss_check surface_check check_between surface_bound encoded answer_of first_fault respond
+a_second_pass =
+    record {
+      product = refl;
+      squares = (refl, refl);
+      required = rw (cheap_low, cheap_high);
+      at_20 = refl;
+      at_30 = refl;
+      first = rw (cheap_low, cheap_high);
+      limit = refl;
+      loss_required = refl;
+      check = rw (cheap_low, cheap_high);
+      aim = (refl, rw (cheap_low, cheap_high));
+      second_required = refl;
+      at_40 = refl;
+      at_50 = refl;
+      found = rw (cheap_low, cheap_high);
+      whole_limit = refl;
+      loss = refl;
+      surface_required = refl;
+      bound = refl;
+      answer = rw (cheap_low, cheap_high);
+    }
+
 the_cold_line : ColdLine
 unfolding summed lower_step upper_step least insulation film insulation_bounds film_bounds provided requirement enclosing first_not_insufficient big_endian bytes_of decoded neighbours loss_limit loss_check surface_check check_between surface_bound encoded answer_of first_fault respond
 the_cold_line = record { difference = refl; required = rw (low, high); checks = (refl, refl); bound = refl; answer = rw (low, high) }
@@ -133,6 +176,7 @@ method =
       between_millimetres = between_millimetres;
       the_flat_wall = the_flat_wall;
       between_rows = between_rows;
+      a_second_pass = a_second_pass;
       the_cold_line = the_cold_line;
       the_cold_wall = the_cold_wall;
       an_entry = an_entry;

@@ -1,6 +1,6 @@
 -- The figures of docs/METHOD.md, section by section, beside those that `Worked`, of `worked`, has: P1, P2, P4, P8 and the answer to F.
 -- Assumes nothing.
-use Rattle.std.specs.Prelude.{ℕ, ◌*◌, ◌≡◌, List, [], ◌∷◌, ◌++◌, get_or}
+use Rattle.std.specs.Prelude.{ℕ, ◌*◌, ◌≡◌, Some, List, [], ◌∷◌, ◌++◌, get_or}
 use Rattle.std.proofs.Math.Option.{none, some}
 use Rattle.fractions.specs.declared.Bounds.{Bounds}
 use Rattle.fractions.specs.Fraction.{◌over◌}
@@ -13,13 +13,15 @@ use Rattle.annex_tables.specs.Annex.{annex_entry}
 use Rattle.line.specs.declared.Shape.TheVariants.{Cylinder as Pipe}
 use Rattle.requirement.specs.declared.Goal.TheVariants.{Loss, Surface}
 use Rattle.provision.specs.Provided.{film_bounds, insulation_bounds, provided}
+use Rattle.verdict.specs.declared.Verdict.TheVariants.{Sufficient, Insufficient}
 use Rattle.refusals.specs.Response.{complete}
 use Rattle.big_endian.specs.Bytes.{bytes_of}
 use Rattle.limits.specs.Limits.{row, table, limit_of, neighbours, interpolated, loss_limit, surface_limit}
 use Rattle.limits.specs.FlatTable.{flat_table, place}
 use Rattle.sheet.specs.Sheet.{decoded, difference, surface_aim, goal_of}
-use Rattle.sheet.specs.Search.{required_of}
-use Rattle.sheet.specs.Passes.{chosen}
+use Rattle.sheet.specs.Search.{required_of, first_by}
+use Rattle.sheet.specs.Checks.{loss_check}
+use Rattle.sheet.specs.Passes.{second_aim, check_between, deciding, chosen}
 use Rattle.sheet.specs.Answer.{surface_bound}
 use Rattle.sheet.specs.Refusals.{response_to}
 use Rattle.worked.specs.Sheets.{sheet_f, sheet_g}
@@ -43,6 +45,10 @@ flat = sheet_f 2 800
 -- the same wall with another surface coefficient and aim, for any service
 abbrev pub wall : ℕ → List ℕ
 wall service = 2 ∷ service ∷ 0 ∷ 8 ∷ 46 ∷ 224 ∷ 5 ∷ 20 ∷ 0 ∷ 200 ∷ 1 ∷ 144 ∷ 4 ∷ 139 ∷ (bytes_of 8 0 ++ (4 ∷ 36 ∷ []))
+
+-- the flat wall with cheap heat, by goal 6
+abbrev pub second_pass : List ℕ
+second_pass = 6 ∷ 3 ∷ 0 ∷ 10 ∷ 46 ∷ 224 ∷ 5 ∷ 20 ∷ 0 ∷ 200 ∷ 1 ∷ 144 ∷ 3 ∷ 32 ∷ 3 ∷ 232 ∷ 15 ∷ 160 ∷ 11 ∷ 184 ∷ 8 ∷ 248 ∷ 0 ∷ 0 ∷ []
 
 -- the cylinder as a cold line, and a cold wall
 abbrev pub cold_line : List ℕ
@@ -140,6 +146,32 @@ pub record BetweenRows : Type 0 where
   pub answer : response_to (wall 3) ≡ complete (0 ∷ 2 ∷ 0 ∷ 40 ∷ 0 ∷ 0 ∷ 1 ∷ 32 ∷ [])
   pub answer_by_row : response_to (wall 1) ≡ complete (0 ∷ 2 ∷ 0 ∷ 40 ∷ 1 ∷ 0 ∷ 1 ∷ 32 ∷ [])
 
+pub record SecondPass : Type 0 where
+  -- the first pass: the product under the root, the squares that pin the root down, and the rung
+  pub product : 3_598_609_000 * (1_000 * 400 * 4_000 * 1_100) ≡ 6_333_551_840_000_000_000_000
+  pub squares : (30_323_344 * 30_323_344 * 6_888_000 ≡ 6_333_551_757_966_010_368_000) × (30_323_345 * 30_323_345 * 6_888_000 ≡ 6_333_552_175_700_404_200_000)
+  pub required : required_of (decoded second_pass) (goal_of (decoded second_pass)) ≡ bounds 30_323_344 30_323_345
+  pub at_20 : provided (decoded second_pass).line (millimetres 20) ≡ bounds 25_000_000 25_000_000
+  pub at_30 : provided (decoded second_pass).line (millimetres 30) ≡ bounds 35_000_000 35_000_000
+  pub first : first_by (decoded second_pass) (goal_of (decoded second_pass)) ≡ 3
+  -- its loss check
+  pub limit : loss_limit 3 (tenths_celsius 1_300) ≡ 1_068
+  pub loss_required : required_of (decoded second_pass) (Loss 1_068) ≡ bounds 41_198_501 41_198_502
+  pub check : check_between (decoded second_pass) ≡ Some Insufficient
+  -- the second pass: 90 per cent of the limit, and the rung
+  pub aim : (second_aim (decoded second_pass) ≡ 961) × (deciding (decoded second_pass) ≡ Loss 961)
+  pub second_required : required_of (decoded second_pass) (Loss 961) ≡ bounds 45_785_639 45_785_640
+  pub at_40 : provided (decoded second_pass).line (millimetres 40) ≡ bounds 45_000_000 45_000_000
+  pub at_50 : provided (decoded second_pass).line (millimetres 50) ≡ bounds 55_000_000 55_000_000
+  pub found : chosen (decoded second_pass) ≡ 5
+  -- the whole limit would allow 40 mm
+  pub whole_limit : loss_check (decoded second_pass) (bounds 45_000_000 45_000_000) ≡ Some Sufficient
+  -- the checks, the bound and the answer
+  pub loss : loss_check (decoded second_pass) (bounds 55_000_000 55_000_000) ≡ Some Sufficient
+  pub surface_required : required_of (decoded second_pass) (Surface 300) ≡ bounds 18_333_333 18_333_334
+  pub bound : surface_bound (decoded second_pass) (bounds 55_000_000 55_000_000) ≡ tenths_celsius 300
+  pub answer : response_to second_pass ≡ complete (1 ∷ 2 ∷ 0 ∷ 50 ∷ 0 ∷ 0 ∷ 1 ∷ 44 ∷ [])
+
 pub record ColdLine : Type 0 where
   pub difference : difference (decoded cold_line) ≡ 137
   pub required : required_of (decoded cold_line) (goal_of (decoded cold_line)) ≡ bounds 62_154_864 62_154_865
@@ -170,6 +202,7 @@ pub record Method : Type 0 where
   pub between_millimetres : Between
   pub the_flat_wall : FlatWall
   pub between_rows : BetweenRows
+  pub a_second_pass : SecondPass
   pub the_cold_line : ColdLine
   pub the_cold_wall : ColdWall
   pub an_entry : Entry
