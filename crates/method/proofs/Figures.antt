@@ -1,8 +1,7 @@
 -- The figures of docs/METHOD.md, by computation.
 -- Assumes nothing.
-use mathlib.Core.Path.{◌≡◌, refl, sym}
+use mathlib.Core.Path.{◌≡◌, refl}
 use mathlib.Core.List.{flat_map}
-use native.Mathlib.Nat.{lt_of_le_of_lt}
 use native.Mathlib.Omega.{arith}
 use Rattle.fractions.specs.Fraction.{Fraction, ◌over◌}
 use Rattle.quadrature.specs.Sums.{summed}
@@ -10,8 +9,6 @@ use Rattle.quadrature.specs.Figures.{lower_step, upper_step}
 use Rattle.quadrature.specs.Cuttings.{cut_sum}
 use Rattle.roots.specs.Least.{least}
 use Rattle.roots.specs.Root.{floor_root, ceiling_root}
-use Rattle.roots.proofs.Squares.{square_le}
-use Rattle.roots.proofs.Roots.{floor_root_is, ceiling_root_is}
 use Rattle.requirement.specs.Required.{requirement, enclosing}
 use Rattle.provision.specs.Provided.{insulation, film, insulation_bounds, film_bounds, provided}
 use Rattle.verdict.specs.Verdict.{first_not_insufficient}
@@ -24,7 +21,7 @@ use Rattle.answer.specs.Answer.{encoded}
 use Rattle.sheet.specs.Checks.{loss_check, surface_check}
 use Rattle.sheet.specs.Passes.{check_between}
 use Rattle.sheet.specs.Answer.{surface_bound, answer_of}
-use Rattle.worked.proofs.Examples.{low, high}
+use Rattle.worked.proofs.Examples.{root_low, root_high, low, high}
 use Rattle.book.specs.Refusals.{same_bytes}
 use Rattle.method.specs.Method.{Cylinder, Hotter, Between, FlatWall, BetweenRows, SecondPass, ColdLine, ColdWall, Entry, Method}
 
@@ -123,12 +120,10 @@ abbrev radicand : Fraction
 radicand = 6_333_551_840_000_000_000_000 over 6_888_000
 
 cheap_low : floor_root radicand ≡ 30_323_344
-cheap_low = sym (floor_root_is radicand (omega arith) 30_323_344 (omega arith) (omega arith))
+cheap_low = root_low radicand 30_323_344 (omega arith) (omega arith) (omega arith)
 
 cheap_high : ceiling_root radicand ≡ 30_323_345
-cheap_high =
-    sym (ceiling_root_is radicand (omega arith) 30_323_345 (omega arith)
-    (λ x lt. lt_of_le_of_lt (square_le {x = x} {y = 30_323_344} radicand.den (omega arith)) (omega arith)))
+cheap_high = root_high radicand 30_323_344 (omega arith) (omega arith) (omega arith)
 
 a_second_pass : SecondPass
 unfolding summed lower_step upper_step least insulation film insulation_bounds film_bounds provided requirement enclosing first_not_insufficient big_endian bytes_of decoded neighbours loss_limit loss_check surface_check check_between surface_bound encoded answer_of first_fault respond
