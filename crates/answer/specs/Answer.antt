@@ -32,8 +32,8 @@ abbrev pub loss_code : Option Verdict → ℕ
 loss_code (Some v) = check_code v
 loss_code None = 3
 
--- "Byte 0 is 0" or, after a second pass, 1. "Byte 1: 1 cylinder, 2 flat. Bytes 2–3: thickness in mm. Byte 4, loss check … Byte 5, surface check … Bytes 6–7: surface
--- bound in 0.1 °C, signed."
+-- Byte 0 tells the pass. "Byte 1: 1 cylinder, 2 flat. Bytes 2–3: thickness in mm. Byte 4, loss check … Byte 5, surface check … Bytes 6–7:
+-- surface bound in 0.1 °C, signed."
 unfoldable pub encoded : Answer → List ℕ
 encoded a =
     pass_code a.pass ∷ shape_code a.shape ∷

@@ -9,15 +9,15 @@ use line::Shape;
 use temperatures::Temperature;
 use verdict::Verdict;
 
-// The pass that gives the thickness: a sheet that goes by the loss limit may take a second one.
+// The pass that gives the thickness: a sheet that has to respect the loss limit may take a second one.
 #[derive(Clone, Copy, Debug, PartialEq, Eq)]
 pub enum Pass {
     First,
     Second,
 }
 
-// The thickness with the pass that gives it and its two checks, that of the loss where a limit is printed, and the bound on the surface's temperature: an upper one on
-// a hot line, a lower one on a cold one.
+// The thickness, with the pass that gives it and its two checks, that of the loss where a limit is printed, and the bound on the surface's
+// temperature: an upper one on a hot line, a lower one on a cold one.
 #[derive(Clone, Copy, Debug, PartialEq, Eq)]
 pub struct Answer {
     pub pass: Pass,

@@ -53,7 +53,7 @@ impl AdmittedSheet {
         }
     }
 
-    // The goal of a second pass: 90 per cent of the loss limit.
+    // The goal of a second pass: 90 per cent of the loss limit, rounded down.
     #[tactic(auto, using(limits::proofs::Size::printed_size))]
     pub fn second_goal(self) -> Goal
         requires { is_some self.limit ≡ true }

@@ -16,7 +16,7 @@ use Rattle.big_endian.specs.Bytes.{big_endian}
 use Rattle.sheet.specs.declared.fields.Sheet.{Sheet}
 use Rattle.sheet.specs.Sheet.{decoded, difference}
 use Rattle.sheet.specs.Search.{requirement_of}
-use Rattle.sheet.specs.Passes.{deciding, verdicts, chosen}
+use Rattle.sheet.specs.Passes.{deciding_goal, verdicts, chosen}
 use Rattle.sheet.specs.Answer.{answer}
 use Rattle.sheet.specs.Refusals.{cases}
 use Rattle.sheet.specs.Admitted.{Admitted}
@@ -51,8 +51,8 @@ demand_2 =
     record { of_sheets = sheet_demand_2; reads_back = reads_back standard standard_usable refl; takes_sheets = takes_sheets standard standard_usable refl }
 
 -- no denominator is 0
-proper : (s : Sheet) → Admitted s → 0 < denominator (requirement_of s (deciding s))
-proper s in_range = in_range_proper s.line (difference s) (deciding s) in_range.line (deciding_in_range s in_range)
+proper : (s : Sheet) → Admitted s → 0 < denominator (requirement_of s (deciding_goal s))
+proper s in_range = in_range_proper s.line (difference s) (deciding_goal s) in_range.line (deciding_in_range s in_range)
 
 pub denominators : Denominators
 denominators sheet bytes h m hm r =
@@ -67,12 +67,12 @@ denominators sheet bytes h m hm r =
 pub surface_bound_lem : SurfaceBound
 surface_bound_lem sheet bytes h m hm =
     let got = (sheet_demand_2 sheet).answered bytes h in
-    rw (got.thickness, got.bound) (both_within (decoded sheet) (answered sheet bytes h).0.admitted (thickness_at got.rung) (omega arith) m hm)
+    rw (got.thickness, got.bound) (both_within (decoded sheet) (answered sheet bytes h).0.admitted (thickness_at got.found.rung) (omega arith) m hm)
 
 pub demand_3 : Demand3
 demand_3 sheet bytes h m hm r lt =
     let s = decoded sheet in
-    let q = requirement_of s (deciding s) in
+    let q = requirement_of s (deciding_goal s) in
     let got = answered sheet bytes h in
     let known = got.0 in
     let some = proper s known.admitted in

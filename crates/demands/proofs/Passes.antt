@@ -1,8 +1,7 @@
 -- Which passes a sheet comes to, as the definitions decide it and as demand 2 states it.
 -- Assumes nothing.
-use mathlib.Core.Path.{◌≡◌, refl, ap, ◌∙◌}
-use mathlib.Core.Bool.{Bool, true, false, cond, ◌||◌, and-false, and-eq-true_iff}
-use mathlib.Core.Logic.{◌⊎◌, inl, inr}
+use mathlib.Core.Path.{◌≡◌, ap, ◌∙◌}
+use mathlib.Core.Bool.{Bool, true, false, cond, and-false, and-eq-true_iff}
 use borrow.Author.Tests.{lt-ltb, ltb-true}
 use Rattle.std.specs.Prelude.{Option, Some, None}
 use Rattle.lengths.specs.Ladder.{rungs}
@@ -16,23 +15,9 @@ use Rattle.answer.specs.declared.Pass.TheVariants.{First, Second}
 use Rattle.sheet.specs.declared.fields.Sheet.{Sheet}
 use Rattle.sheet.specs.Sheet.{goal_of}
 use Rattle.sheet.specs.Search.{verdicts_by, first_by}
-use Rattle.sheet.specs.Passes.{goal_in, succeeds, check_between, pass_after, too_close, deciding_pass}
-use Rattle.sheet.proofs.Passes.{first_check, between, after_over}
+use Rattle.sheet.specs.Passes.{goal_in, succeeds, first_check, check_between, pass_after, too_close, deciding_pass}
+use Rattle.sheet.proofs.Passes.{between, after_over}
 use Rattle.demands.specs.Demands.{InsufficientBelow, FirstUndecided, Found, Checked, Reaches, Decides}
-
-pub neither : (a b : Bool) → (a || b) ≡ false → (a ≡ false) × (b ≡ false)
-neither true b e = cc
-neither false b e = (refl, e)
-
-pub either : (a b : Bool) → (a || b) ≡ true → (a ≡ true) ⊎ (b ≡ true)
-either true b e = inl refl
-either false b e = inr e
-
-pub close : (c : Option Verdict) → too_close c ≡ true → c ≡ Some Undecided
-close (Some Sufficient) e = cc
-close (Some Insufficient) e = cc
-close (Some Undecided) e = refl
-close None e = cc
 
 module _ (s : Sheet) where
   -- the rung that a search finds is the first that does not miss
@@ -51,24 +36,24 @@ module _ (s : Sheet) where
   pub check_is : (v : Verdict) → Checked s v → check_between s ≡ Some v
   unfolding check_between
   check_is v c =
-      ap (λ (b : Bool). cond b (first_check s) None) ((and-eq-true_iff _ _).1 (c.limited, found_succeeds (goal_of s) c.found))
+      ap (λ (b : Bool). cond b (first_check s) None) ((and-eq-true_iff _ _).1 (c.respects, found_succeeds (goal_of s) c.found))
       ∙ rw (found_first (goal_of s) c.found) c.says
 
   pub checked : (v : Verdict) → check_between s ≡ Some v → Checked s v
   checked v e =
       let b = between s v e in
       let f = found (goal_of s) b.succeeded in
-      record { limited = b.limited; found = f; says = rw (found_first (goal_of s) f) at b.says }
+      record { respects = b.respects; found = f; says = rw (found_first (goal_of s) f) at b.says }
 
   pub reaches : (p : Pass) → deciding_pass s ≡ p → Reaches s p
   reaches First e = tt
   reaches Second e = checked Insufficient (after_over (check_between s) e)
 
   pub decides : (c : Option Verdict) → check_between s ≡ c → too_close c ≡ false → Decides s (pass_after c)
-  decides (Some Sufficient) is far = λ v c. (let e = check_is v c in cc)
-  decides (Some Insufficient) is far = checked Insufficient is
-  decides (Some Undecided) is far = cc
-  decides None is far = λ v c. (let e = check_is v c in cc)
+  decides (Some Sufficient) is not_close = λ v c. (let e = check_is v c in cc)
+  decides (Some Insufficient) is not_close = checked Insufficient is
+  decides (Some Undecided) is not_close = cc
+  decides None is not_close = λ v c. (let e = check_is v c in cc)
 
   -- a pass that is reached and finds no rung decides
   pub decided : (p : Pass) → Reaches s p → succeeds s (goal_in s p) ≡ false → deciding_pass s ≡ p
@@ -76,11 +61,11 @@ module _ (s : Sheet) where
   decided First reached fails = rw (fails, and-false)
   decided Second reached fails = rw (check_is Insufficient reached)
 
-  pub none_found : (goal : Goal) → InsufficientBelow (verdicts_by s goal) rungs → succeeds s goal ≡ false
-  none_found goal all = rw (first_none (verdicts_by s goal) all)
+  pub none_fails : (goal : Goal) → InsufficientBelow (verdicts_by s goal) rungs → succeeds s goal ≡ false
+  none_fails goal all = rw (first_none (verdicts_by s goal) all)
 
   pub open_first : (goal : Goal) (f : FirstUndecided (verdicts_by s goal)) → first_by s goal ≡ f.0
   open_first goal f = first_is (verdicts_by s goal) f.0 f.1 (ap not_insufficient f.2) f.3
 
-  pub open_found : (goal : Goal) → FirstUndecided (verdicts_by s goal) → succeeds s goal ≡ false
-  open_found goal f = rw (open_first goal f, f.2, and-false)
+  pub open_fails : (goal : Goal) → FirstUndecided (verdicts_by s goal) → succeeds s goal ≡ false
+  open_fails goal f = rw (open_first goal f, f.2, and-false)

@@ -8,6 +8,7 @@ use Prim.Native.Nat.{ℕ, ◌<◌}
 use native.Mathlib.Omega.{arith}
 use lib.Dec.{eqb}
 use borrow.Author.Tests.{eqb-true, eqb-false}
+use Rattle.std.proofs.lemmas.Bool.{or_parts, or_cases}
 use Rattle.lengths.specs.Ladder.{rungs, thickness_at}
 use Rattle.refusals.specs.Cases.{Case, case, NoneHolds}
 use Rattle.refusals.specs.Response.{refused, complete}
@@ -29,10 +30,11 @@ use Rattle.sheet.specs.Answer.{surface_bound, answer_of, answer}
 use Rattle.sheet.specs.Refusals.{field_cases, ladder_cases, cases, response_to}
 use Rattle.sheet.specs.Admitted.{Admitted}
 use Rattle.sheet.proofs.Admitted.{admitted}
+use Rattle.sheet.proofs.Passes.{after_close}
 use Rattle.sheet.proofs.Ladder.{open_or_close, all_insufficient, first_undecided}
 use Rattle.demands.specs.Demands.{AnswerTo, Seventeen, Eighteen, SheetDemand2}
-use Rattle.demands.specs.Demands.Eighteen.{open_in, too_close as too_near}
-use Rattle.demands.proofs.Passes.{neither, either, close, found_first, check_is, checked, reaches, decides, decided, none_found, open_first, open_found}
+use Rattle.demands.specs.Demands.Eighteen.{open_in, check_too_close}
+use Rattle.demands.proofs.Passes.{found_first, check_is, checked, reaches, decides, decided, none_fails, open_first, open_fails}
 
 -- none of two lists of cases holds
 pub none_parts : (cs ds : List Case) → NoneHolds (cs ++ ds) → NoneHolds cs × NoneHolds ds
@@ -45,7 +47,7 @@ pub record Answered (sheet : List ℕ) : Type 0 where
   pub admitted : Admitted (decoded sheet)
   pub found : chosen (decoded sheet) < rungs
   pub enough : verdicts (decoded sheet) (chosen (decoded sheet)) ≡ Sufficient
-  pub far : too_close (check_between (decoded sheet)) ≡ false
+  pub not_close : too_close (check_between (decoded sheet)) ≡ false
 
 pub answered : (sheet bytes : List ℕ) → response_to sheet ≡ complete bytes → Answered sheet × (answer sheet ≡ bytes)
 unfolding NoneHolds
@@ -55,8 +57,8 @@ answered sheet bytes h =
     let none = none_parts (field_cases sheet) (ladder_cases s) got.0 in
     let not_all : ¬ (chosen s ≡ rungs) = eqb-false _ _ none.1.0 in
     let lt : chosen s < rungs = omega (arith, first_within (verdicts s)) in
-    let decided = neither _ _ none.1.1.0 in
-    (record { admitted = admitted s none.0.1; found = lt; enough = sufficient_unless _ (first_not_insufficient_lem (verdicts s) lt) decided.0; far = decided.1 }, got.1)
+    let decided = or_parts _ _ none.1.1.0 in
+    (record { admitted = admitted s none.0.1; found = lt; enough = sufficient_unless _ (first_not_insufficient_lem (verdicts s) lt) decided.0; not_close = decided.1 }, got.1)
 
 -- the numbers in an answer's bytes, of fields that fit theirs
 module _ (a : Answer) where
@@ -78,11 +80,8 @@ unfolding decoded bytes_of encoded answer_of surface_bound
 answer_to sheet known =
     let s = decoded sheet in
     record {
-      rung = chosen s;
-      on_ladder = known.found;
-      sufficient = known.enough;
-      first = misses_before (verdicts s);
-      pass = decides s (check_between s) refl known.far;
+      found = record { rung = chosen s; on_ladder = known.found; sufficient = known.enough; first = misses_before (verdicts s) };
+      pass = decides s (check_between s) refl known.not_close;
       size = refl;
       start = refl;
       shape = refl;
@@ -106,7 +105,7 @@ module _ (sheet : List ℕ) where
   when_17 : NoneHolds (field_cases sheet) × Seventeen s → response_to sheet ≡ refused 17
   when_17 h =
       let goal = goal_in s h.1.pass in
-      let is = decided s h.1.pass h.1.reached (none_found s goal h.1.all_miss) in
+      let is = decided s h.1.pass h.1.reached (none_fails s goal h.1.all_miss) in
       later (field_cases sheet) (ladder_cases s) (answer sheet) h.0 ∙ all_insufficient s (answer sheet) (rw is (first_none (verdicts_by s goal) h.1.all_miss))
 
   only_18 : response_to sheet ≡ refused 18 → NoneHolds (field_cases sheet) × Eighteen s
@@ -116,16 +115,16 @@ module _ (sheet : List ℕ) where
       let end = behind 18 (case 17 (eqb (chosen s) rungs) ∷ []) (case 18 (open_or_close s) ∷ []) (answer sheet) refl got.1 in
       let some : ¬ (chosen s ≡ rungs) = eqb-false _ _ end.0.0 in
       let lt : chosen s < rungs = omega (arith, first_within (verdicts s)) in
-      (got.0, elim (either _ _ (front 18 (open_or_close s) [] (answer sheet) refl end.1)) [
+      (got.0, elim (or_cases _ _ (front 18 (open_or_close s) [] (answer sheet) refl end.1)) [
         | inl u ↦ open_in (deciding_pass s) (reaches s (deciding_pass s) refl) (chosen s, lt, undecided_if _ u, misses_before (verdicts s))
-        | inr c ↦ too_near (checked s Undecided (close (check_between s) c))
+        | inr c ↦ check_too_close (checked s Undecided (after_close (check_between s) c))
       ])
 
   when_open : Eighteen s → (chosen s < rungs) × (open_or_close s ≡ true)
   when_open (open_in p reached f) =
       let goal = goal_in s p in
-      rw (decided s p reached (open_found s goal f), open_first s goal f) (f.1, rw f.2)
-  when_open (too_near c) = rw (check_is s Undecided c, found_first s (goal_of s) c.found) (c.found.on_ladder, or-true _)
+      rw (decided s p reached (open_fails s goal f), open_first s goal f) (f.1, rw f.2)
+  when_open (check_too_close c) = rw (check_is s Undecided c, found_first s (goal_of s) c.found) (c.found.on_ladder, or-true _)
 
   when_18 : NoneHolds (field_cases sheet) × Eighteen s → response_to sheet ≡ refused 18
   when_18 h =

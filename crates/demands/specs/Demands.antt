@@ -28,7 +28,7 @@ use Rattle.sheet.specs.declared.fields.Sheet.{Sheet}
 use Rattle.sheet.specs.Sheet.{decoded, difference, goal_of}
 use Rattle.sheet.specs.Search.{requirement_of, verdicts_by}
 use Rattle.sheet.specs.Checks.{loss_check, surface_check}
-use Rattle.sheet.specs.Passes.{goal_in, deciding_pass, deciding, verdicts}
+use Rattle.sheet.specs.Passes.{goal_in, deciding_pass, deciding_goal}
 use Rattle.sheet.specs.Answer.{surface_difference, surface_bound, answer}
 use Rattle.sheet.specs.Refusals.{field_cases, cases, response_to}
 use Rattle.layout.specs.declared.offsets.Layout.{Layout}
@@ -71,7 +71,7 @@ pub record Found (s : Sheet) (goal : Goal) : Type 0 where
 
 -- under goal 6, the loss check says v of the rung that the first pass finds (02, N5)
 pub record Checked (s : Sheet) (v : Verdict) : Type 0 where
-  pub limited : s.limited ≡ true
+  pub respects : s.respects_limit ≡ true
   pub found : Found s (goal_of s)
   pub says : loss_check s (provided s.line (thickness_at found.rung)) ≡ Some v
 
@@ -88,18 +88,15 @@ Decides s Second = Checked s Insufficient
 -- Demand 2: "The thickness, the checks and the surface temperature are those that the paper's equations and whole-number figures give":
 -- what is read in the eight bytes, the rung being the first that doesn't miss, which meets, in the pass that decides
 pub record AnswerTo (s : Sheet) (bytes : List ℕ) : Type 0 where
-  pub rung : ℕ
-  pub on_ladder : rung < rungs
-  pub sufficient : verdicts s rung ≡ Sufficient
-  pub first : InsufficientBelow (verdicts s) rung
   pub pass : Decides s (deciding_pass s)
+  pub found : Found s (deciding_goal s)
   pub size : length bytes ≡ 8
   pub start : get_or bytes 0 0 ≡ pass_code (deciding_pass s)
   pub shape : get_or bytes 1 0 ≡ shape_code (shape_of s.line)
-  pub thickness : big_endian bytes 2 2 ≡ (thickness_at rung).0
-  pub loss : get_or bytes 4 0 ≡ loss_code (loss_check s (provided s.line (thickness_at rung)))
-  pub surface : get_or bytes 5 0 ≡ check_code (surface_check s (provided s.line (thickness_at rung)))
-  pub bound : signed (big_endian bytes 6 2) ≡ surface_bound s (provided s.line (thickness_at rung))
+  pub thickness : big_endian bytes 2 2 ≡ (thickness_at found.rung).0
+  pub loss : get_or bytes 4 0 ≡ loss_code (loss_check s (provided s.line (thickness_at found.rung)))
+  pub surface : get_or bytes 5 0 ≡ check_code (surface_check s (provided s.line (thickness_at found.rung)))
+  pub bound : signed (big_endian bytes 6 2) ≡ surface_bound s (provided s.line (thickness_at found.rung))
 
 -- some rung is open, and every rung below it misses
 abbrev pub FirstUndecided : (ℕ → Verdict) → Type 0
@@ -117,7 +114,7 @@ pub data Eighteen (s : Sheet) : Type 0 where
   -- "the first rung that doesn't miss is open" (01), in a pass
   open_in : (pass : Pass) → Reaches s pass → FirstUndecided (verdicts_by s (goal_in s pass)) → Eighteen s
   -- "If the check says too close, the sheet gets 18." (02, N5)
-  too_close : Checked s Undecided → Eighteen s
+  check_too_close : Checked s Undecided → Eighteen s
 
 -- "refusals 17 and 18 come in their stated cases only"
 pub record SheetDemand2 (sheet : List ℕ) : Type 0 where
@@ -166,13 +163,12 @@ pub record Demand2 : Type 0 where
 -- ladder: that rung equals the thickness we give exactly when it meets the exact equation on that cutting's under-sum and the rung below
 -- it, if there is one, misses it on that cutting's over-sum." "the thickness is bytes 2–3 of the answer, and both rungs are judged by the
 -- sheet's own goal" (01, "Ladder and figures"); after a second pass "the exact equation of demand 3 is the loss one of the second pass" (02,
--- N5). On a flat wall `provided_exactly` reads no sum: "there the same holds with the exact
--- equation alone judging both rungs".
+-- N5). On a flat wall `provided_exactly` reads no sum: "there the same holds with the exact equation alone judging both rungs".
 abbrev pub Demand3 : Type 0
 Demand3 =
     (sheet bytes : List ℕ) → response_to sheet ≡ complete bytes → (m : ℕ) → 1 ≤ m → (r : ℕ) → r < rungs →
     let s = decoded sheet in
-    let required = requirement_of s (deciding s) in
+    let required = requirement_of s (deciding_goal s) in
     (big_endian bytes 2 2 ≡ (thickness_at r).0) ↔
     (Meets required (provided_exactly (lower_sum m) s.line (thickness_at r)) ×
     ((r ≡ 0) ⊎ Misses required (provided_exactly (upper_sum m) s.line (thickness_at (r - 1)))))
@@ -205,7 +201,7 @@ Denominators =
     (sheet bytes : List ℕ) → response_to sheet ≡ complete bytes → (m : ℕ) → 1 ≤ m → (r : ℕ) →
     let s = decoded sheet in
     let k = thickness_at r in
-    (0 < difference s) × (0 < denominator (requirement_of s (deciding s))) ×
+    (0 < difference s) × (0 < denominator (requirement_of s (deciding_goal s))) ×
     (0 < (provided_exactly (lower_sum m) s.line k).den) × (0 < (provided_exactly (upper_sum m) s.line k).den) ×
     (0 < (surface_difference s.line (difference s) ((provided s.line k).lower over 1)).den) ×
     (0 < (surface_difference_exactly (lower_sum m) s k).den) × (0 < (surface_difference_exactly (upper_sum m) s k).den)

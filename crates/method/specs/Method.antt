@@ -21,7 +21,7 @@ use Rattle.limits.specs.FlatTable.{flat_table, place}
 use Rattle.sheet.specs.Sheet.{decoded, difference, surface_aim, goal_of}
 use Rattle.sheet.specs.Search.{required_of, first_by}
 use Rattle.sheet.specs.Checks.{loss_check}
-use Rattle.sheet.specs.Passes.{second_aim, check_between, deciding, chosen}
+use Rattle.sheet.specs.Passes.{second_aim, check_between, deciding_goal, chosen}
 use Rattle.sheet.specs.Answer.{surface_bound}
 use Rattle.sheet.specs.Refusals.{response_to}
 use Rattle.worked.specs.Sheets.{sheet_f, sheet_g}
@@ -159,7 +159,7 @@ pub record SecondPass : Type 0 where
   pub loss_required : required_of (decoded second_pass) (Loss 1_068) ≡ bounds 41_198_501 41_198_502
   pub check : check_between (decoded second_pass) ≡ Some Insufficient
   -- the second pass: 90 per cent of the limit, and the rung
-  pub aim : (second_aim (decoded second_pass) ≡ 961) × (deciding (decoded second_pass) ≡ Loss 961)
+  pub aim : (second_aim (decoded second_pass) ≡ 961) × (deciding_goal (decoded second_pass) ≡ Loss 961)
   pub second_required : required_of (decoded second_pass) (Loss 961) ≡ bounds 45_785_639 45_785_640
   pub at_40 : provided (decoded second_pass).line (millimetres 40) ≡ bounds 45_000_000 45_000_000
   pub at_50 : provided (decoded second_pass).line (millimetres 50) ≡ bounds 55_000_000 55_000_000

@@ -25,15 +25,13 @@ use Rattle.sheet.specs.declared.fields.Sheet.{Sheet}
 use Rattle.sheet.specs.Sheet.{goal_of}
 use Rattle.sheet.specs.Search.{verdicts_by, first_by}
 use Rattle.sheet.specs.Checks.{loss_check}
-use Rattle.sheet.specs.Passes.{goal_in, succeeds, check_between, pass_after, too_close, deciding_pass, deciding, verdicts, chosen}
+use Rattle.sheet.specs.Passes.{goal_in, succeeds, check_between, pass_after, too_close, deciding_pass, deciding_goal, verdicts, chosen}
 use Rattle.sheet.specs.Refusals.{ladder_cases}
 use Rattle.sheet.proofs.Ladder.{all_insufficient, first_undecided, first_decided}
-use Rattle.outcome.specs.Pass.{pass_by}
+use Rattle.sheet.proofs.Passes.{after_close}
+use Rattle.outcome.specs.Pass.{pass_by, next}
 
 -- what comes after a loss check between the passes
-abbrev pub next : Option Verdict → Result Pass Refusal
-next c = cond (too_close c) (Err TooClose) (Ok (pass_after c))
-
 pub next_refused : (c : Option Verdict) {why : Refusal} → next c ≡ Err why → (too_close c ≡ true) × (why ≡ TooClose)
 next_refused (Some Sufficient) e = cc
 next_refused (Some Insufficient) e = cc
@@ -48,13 +46,13 @@ next_pass None e = (refl, cc)
 
 module _ (s : Sheet) where
   -- a pass found the rung r, or none
-  pub record Found (goal : Goal) (r : Rung) : Type 0 where
+  pub record FoundRung (goal : Goal) (r : Rung) : Type 0 where
     pub is : r ≡ rung s.line (first_by s goal)
     pub on_ladder : first_by s goal < rungs
     pub succeeded : succeeds s goal ≡ true
 
   abbrev pub Told : Goal → Result Rung Refusal → Type 0
-  Told goal (Ok r) = Found goal r
+  Told goal (Ok r) = FoundRung goal r
   Told goal (Err why) = succeeds s goal ≡ false
 
   pub told : (goal : Goal) → Told goal (pass_by s goal)
@@ -74,48 +72,43 @@ module _ (s : Sheet) where
   unfolding check_between
   unchecked why e = let none : succeeds s (goal_of s) ≡ false = rw e at (told (goal_of s)) in rw (none, and-false)
 
-  pub checked : (r : Rung) → pass_by s (goal_of s) ≡ Ok r → check_between s ≡ cond s.limited (loss_check s r.provided) None
+  pub checked : (r : Rung) → pass_by s (goal_of s) ≡ Ok r → check_between s ≡ cond s.respects_limit (loss_check s r.provided) None
   unfolding check_between
-  checked r e = let found : Found (goal_of s) r = rw e at (told (goal_of s)) in rw (found.succeeded, found.is, and-true)
+  checked r e = let found : FoundRung (goal_of s) r = rw e at (told (goal_of s)) in rw (found.succeeded, found.is, and-true)
 
   -- the response where the check is not too close: the pass that decides gives it
   abbrev pub of_pass : List ℕ → Result Rung Refusal → Response
   of_pass bytes (Ok r) = complete bytes
   of_pass bytes (Err why) = refused (number_of why)
 
-  pub ended : (bytes : List ℕ) → too_close (check_between s) ≡ false → respond (ladder_cases s) bytes ≡ of_pass bytes (pass_by s (deciding s))
-  ended bytes far = go (ltb (chosen s) rungs) (is_undecided (verdicts s (chosen s))) refl refl
+  pub ended : (bytes : List ℕ) → too_close (check_between s) ≡ false → respond (ladder_cases s) bytes ≡ of_pass bytes (pass_by s (deciding_goal s))
+  ended bytes not_close = go (ltb (chosen s) rungs) (is_undecided (verdicts s (chosen s))) refl refl
     where
       go :
           (a b : Bool) → ltb (chosen s) rungs ≡ a → is_undecided (verdicts s (chosen s)) ≡ b →
           respond (ladder_cases s) bytes ≡ of_pass bytes (cond a (cond b (Err TooClose) (Ok (rung s.line (chosen s)))) (Err NoneSufficient))
       go true true e f = first_undecided s bytes (ltb-true _ _ e) (rw f)
-      go true false e f = first_decided s bytes (ltb-true _ _ e) (rw (f, far))
+      go true false e f = first_decided s bytes (ltb-true _ _ e) (rw (f, not_close))
       go false b e f = all_insufficient s bytes (omega (arith, ltb-false _ _ e, first_within (verdicts s)))
 
   -- the sheet is answered with the rung r
   pub record Given (r : Rung) : Type 0 where
-    pub found : Found (deciding s) r
+    pub found : FoundRung (deciding_goal s) r
     pub response : (bytes : List ℕ) → respond (ladder_cases s) bytes ≡ complete bytes
 
   -- the pass p decides: what it refuses is refused, and the rung that it finds is the chosen one
-  module _ (p : Pass) (decides : deciding_pass s ≡ p) (far : too_close (check_between s) ≡ false) where
+  module _ (p : Pass) (decides : deciding_pass s ≡ p) (not_close : too_close (check_between s) ≡ false) where
     pub refused_by : (bytes : List ℕ) (why : Refusal) → pass_by s (goal_in s p) ≡ Err why → respond (ladder_cases s) bytes ≡ refused (number_of why)
-    refused_by bytes why e = ended bytes far ∙ rw (decides, e)
+    refused_by bytes why e = ended bytes not_close ∙ rw (decides, e)
 
     pub given : (r : Rung) → pass_by s (goal_in s p) ≡ Ok r → Given r
     given r e =
-        let is : pass_by s (deciding s) ≡ Ok r = rw (decides, e) in
-        record { found = rw is at (told (deciding s)); response = λ bytes. ended bytes far ∙ ap (of_pass bytes) is }
+        let is : pass_by s (deciding_goal s) ≡ Ok r = rw (decides, e) in
+        record { found = rw is at (told (deciding_goal s)); response = λ bytes. ended bytes not_close ∙ ap (of_pass bytes) is }
 
   -- the response where it is too close, the first pass having found r
   pub closed : (bytes : List ℕ) (r : Rung) → pass_by s (goal_of s) ≡ Ok r → too_close (check_between s) ≡ true → respond (ladder_cases s) bytes ≡ refused 18
-  closed bytes r e close = go (check_between s) refl close
-    where
-      go : (c : Option Verdict) → check_between s ≡ c → too_close c ≡ true → respond (ladder_cases s) bytes ≡ refused 18
-      go (Some Sufficient) is close = cc
-      go (Some Insufficient) is close = cc
-      go (Some Undecided) is close =
-          let found : Found (goal_of s) r = rw e at (told (goal_of s)) in
-          first_undecided s bytes (rw is found.on_ladder) (rw (is, or-true))
-      go None is close = cc
+  closed bytes r e close =
+      let found : FoundRung (goal_of s) r = rw e at (told (goal_of s)) in
+      let is = after_close (check_between s) close in
+      first_undecided s bytes (rw is found.on_ladder) (rw (is, or-true))

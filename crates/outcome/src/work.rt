@@ -1,6 +1,5 @@
 // The call that answers a sheet.
-ghost use Rattle.std.specs.Prelude.{◌≡◌, ◌<◌, cond, IfOk, IfErr, Ok, Err, Some, None};
-ghost use Rattle.refusals.specs.declared.Refusal.TheVariants.{TooClose};
+ghost use Rattle.std.specs.Prelude.{◌≡◌, ◌<◌, cond, IfOk, IfErr, Some, None};
 ghost use Rattle.verdict.specs.declared.Verdict.TheVariants.{Insufficient};
 ghost use Rattle.requirement.specs.Ranges.{GoalInRange};
 ghost use Rattle.lengths.specs.Ladder.{thickness_at, rungs};
@@ -9,12 +8,12 @@ ghost use Rattle.refusals.specs.Numbers.{number_of};
 ghost use Rattle.refusals.specs.Response.{respond};
 ghost use Rattle.provision.specs.Provided.{provided};
 ghost use Rattle.sheet.specs.Checks.{loss_check};
-ghost use Rattle.sheet.specs.Passes.{check_between, pass_after, too_close, deciding_pass, chosen};
+ghost use Rattle.sheet.specs.Passes.{check_between, deciding_pass, chosen};
 ghost use Rattle.answer.specs.Answer.{encoded};
 ghost use Rattle.sheet.specs.Answer.{answer_of};
 ghost use Rattle.sheet.specs.Refusals.{value_cases, ladder_cases, response_to};
 ghost use Rattle.outcome.specs.Outcome.{response};
-ghost use Rattle.outcome.specs.Pass.{pass_by};
+ghost use Rattle.outcome.specs.Pass.{pass_by, next};
 
 use answer::{Answer, Pass};
 use checks::AdmittedSheet;
@@ -67,31 +66,31 @@ fn admit(sheet: Sheet) -> Result<AdmittedSheet, Refusal>
     Ok(AdmittedSheet::of(sheet))
 }
 
-// Tries the ladder by the sheet's own goal, and again where that has to respect the loss limit and the loss check says over.
+// Tries the ladder by the sheet's own goal and, where that respects the loss limit and the loss check says over, once more.
 fn search_ladder(sheet: AdmittedSheet) -> Result<Answer, Refusal>
     ensures { response result ≡ respond (ladder_cases sheet.sheet) (encoded (answer_of sheet.sheet (chosen sheet.sheet))) }
 {
     let prepared = Provision::of(sheet.at.line);
     let first = pass(sheet, prepared, sheet.goal())?;
     let loss = sheet.loss_check(first.provided);
-    match next_pass(sheet.sheet.limited, loss)? {
+    match next_pass(sheet.sheet.respects_limit, loss)? {
         Pass::First => Ok(answer_of(sheet, Pass::First, first, loss)),
         Pass::Second => second_pass(sheet, prepared),
     }
 }
 
-// The pass that decides, by the loss check of the first one's rung.
-fn next_pass(limited: bool, loss: Option<Verdict>) -> Result<Pass, Refusal>
-    ensures { let check = cond limited loss None in result ≡ cond (too_close check) (Err TooClose) (Ok (pass_after check)) }
+// The pass that decides, by the loss check of the first one's rung; 18 where that is too close.
+fn next_pass(respects_limit: bool, loss: Option<Verdict>) -> Result<Pass, Refusal>
+    ensures { result ≡ next (cond respects_limit loss None) }
 {
     match loss {
-        Some(Verdict::Insufficient) if limited => Ok(Pass::Second),
-        Some(Verdict::Undecided) if limited => Err(Refusal::TooClose),
+        Some(Verdict::Insufficient) if respects_limit => Ok(Pass::Second),
+        Some(Verdict::Undecided) if respects_limit => Err(Refusal::TooClose),
         _ => Ok(Pass::First),
     }
 }
 
-// Tries the ladder again, by 90 per cent of the loss limit.
+// The second pass, by 90 per cent of the loss limit.
 fn second_pass(sheet: AdmittedSheet, prepared: Provision) -> Result<Answer, Refusal>
     requires { (prepared.line ≡ sheet.at.line) × (check_between sheet.sheet ≡ Some Insufficient) }
     ensures { response result ≡ respond (ladder_cases sheet.sheet) (encoded (answer_of sheet.sheet (chosen sheet.sheet))) }
@@ -118,7 +117,9 @@ fn pass(sheet: AdmittedSheet, prepared: Provision, goal: Goal) -> Result<Rung, R
 // The answer with a rung, by the pass that found it.
 #[tactic(auto, using(provision::proofs::Sizes::provided_size), unfolding(sheet::specs::Answer::answer_of))]
 fn answer_of(sheet: AdmittedSheet, pass: Pass, rung: Rung, loss: Option<Verdict>) -> Answer
-    requires { (pass ≡ deciding_pass sheet.sheet) × (rung.index < rungs) × (rung.provided ≡ provided sheet.sheet.line (thickness_at rung.index)) × (loss ≡ loss_check sheet.sheet rung.provided) }
+    requires decides { pass ≡ deciding_pass sheet.sheet }
+    requires found { (rung.index < rungs) × (rung.provided ≡ provided sheet.sheet.line (thickness_at rung.index)) }
+    requires checked { loss ≡ loss_check sheet.sheet rung.provided }
     ensures { result ≡ answer_of sheet.sheet rung.index }
 {
     Answer {

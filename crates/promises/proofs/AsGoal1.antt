@@ -13,7 +13,7 @@ use Rattle.lengths.specs.Ladder.{thickness_at}
 use Rattle.provision.specs.Provided.{provided}
 use Rattle.refusals.specs.Cases.{Case, NoneHolds}
 use Rattle.refusals.specs.Response.{refused, complete, respond}
-use Rattle.refusals.proofs.Response.{first_or_complete, later, first_counts, completed}
+use Rattle.refusals.proofs.Response.{from_front, completed}
 use Rattle.verdict.specs.declared.Verdict.{Verdict}
 use Rattle.verdict.specs.declared.Verdict.TheVariants.{Sufficient, Insufficient, Undecided}
 use Rattle.big_endian.specs.Bytes.{big_endian}
@@ -22,34 +22,25 @@ use Rattle.sheet.specs.declared.fields.Sheet.{Sheet}
 use Rattle.sheet.specs.Sheet.{decoded, goal_of}
 use Rattle.sheet.specs.Fields.{first_fault}
 use Rattle.sheet.specs.Checks.{loss_check, surface_check}
-use Rattle.sheet.specs.Passes.{succeeds, check_between}
+use Rattle.sheet.specs.Passes.{succeeds, first_check, check_between}
 use Rattle.sheet.specs.Answer.{answer_of, surface_bound, answer}
 use Rattle.sheet.specs.Refusals.{field_cases, ladder_cases, cases, response_to}
 use Rattle.sheet.proofs.Ladder.{first_decided}
-use Rattle.sheet.proofs.Passes.{first_check}
 use Rattle.demands.specs.Demands.{AnswerTo, Found}
-use Rattle.demands.specs.Demands.Eighteen.{too_close}
+use Rattle.demands.specs.Demands.Eighteen.{check_too_close}
 use Rattle.demands.proofs.Passes.{found, found_first, found_succeeds, checked}
 use Rattle.demands.proofs.Sheets.{none_parts, sheet_demand_2}
 
 -- a check by its code
-by_code : ℕ → Option Verdict
-by_code n = cond (eqb n 0) (Some Sufficient) (cond (eqb n 1) (Some Insufficient) (cond (eqb n 2) (Some Undecided) None))
+check_by : ℕ → Option Verdict
+check_by n = cond (eqb n 0) (Some Sufficient) (cond (eqb n 1) (Some Insufficient) (cond (eqb n 2) (Some Undecided) None))
 
-coded : (c : Option Verdict) → by_code (loss_code c) ≡ c
-unfolding by_code
-coded (Some Sufficient) = refl
-coded (Some Insufficient) = refl
-coded (Some Undecided) = refl
-coded None = refl
-
--- a refusal by the cases in front is the same whatever stands behind them
-from_front : (n : ℕ) (cs ds es : List Case) (x y : List ℕ) → respond ds x ≡ complete x → respond (cs ++ ds) x ≡ refused n → respond (cs ++ es) y ≡ refused n
-from_front n cs ds es x y none h =
-    elim (first_or_complete cs x) [
-      | inl first ↦ let same = first_counts first.0 cs ds x first.1 in first_counts first.0 cs es y first.1 ∙ (sym same ∙ h)
-      | inr nothing ↦ let given = later cs ds x nothing.0 ∙ none in cc
-    ]
+check_back : (c : Option Verdict) → check_by (loss_code c) ≡ c
+unfolding check_by
+check_back (Some Sufficient) = refl
+check_back (Some Insufficient) = refl
+check_back (Some Undecided) = refl
+check_back None = refl
 
 module _ (rest : List ℕ) where
   abbrev s₁ : Sheet
@@ -61,10 +52,6 @@ module _ (rest : List ℕ) where
   pub same_fields : field_cases (6 ∷ rest) ≡ field_cases (1 ∷ rest)
   unfolding big_endian decoded first_fault
   same_fields = refl
-
-  same_search : (succeeds s₆ (goal_of s₆) ≡ succeeds s₁ (goal_of s₁))
-  unfolding big_endian decoded
-  same_search = refl
 
   -- where no check sends goal 6 into a second pass, it gives what goal 1 gives
   as_1 : (c : Option Verdict) → check_between s₆ ≡ c → (c ≡ None) ⊎ (c ≡ Some Sufficient) → response_to (6 ∷ rest) ≡ response_to (1 ∷ rest)
@@ -96,7 +83,7 @@ module _ (rest : List ℕ) where
 
     found_1 : Found s₁ (goal_of s₁)
     unfolding big_endian decoded check_between
-    found_1 = record { rung = got.rung; on_ladder = got.on_ladder; sufficient = got.sufficient; first = got.first }
+    found_1 = got.found
 
     check : get_or bytes 4 0 ≡ loss_code (check_between s₆)
     unfolding found_1 big_endian decoded check_between loss_check
@@ -105,21 +92,21 @@ module _ (rest : List ℕ) where
           ap (λ (r : ℕ). loss_check s₁ (provided s₁.line (thickness_at r))) (sym (found_first s₁ (goal_of s₁) found_1))
           ∙ ap (λ (b : Bool). cond b (first_check s₆) None) (sym (found_succeeds s₁ (goal_of s₁) found_1)))
 
-    check_is : (n : ℕ) → get_or bytes 4 0 ≡ n → check_between s₆ ≡ by_code n
-    check_is n e = sym (coded (check_between s₆)) ∙ ap by_code (sym check ∙ e)
+    check_is : (n : ℕ) → get_or bytes 4 0 ≡ n → check_between s₆ ≡ check_by n
+    check_is n e = sym (check_back (check_between s₆)) ∙ ap check_by (sym check ∙ e)
 
-    pub fields : NoneHolds (field_cases (1 ∷ rest))
-    fields = (none_parts (field_cases (1 ∷ rest)) (ladder_cases s₁) (completed (cases (1 ∷ rest)) (answer (1 ∷ rest)) bytes h).0).0
+    pub no_fault : NoneHolds (field_cases (1 ∷ rest))
+    no_fault = (none_parts (field_cases (1 ∷ rest)) (ladder_cases s₁) (completed (cases (1 ∷ rest)) (answer (1 ∷ rest)) bytes h).0).0
 
     pub within : (get_or bytes 4 0 ≡ 0) ⊎ (get_or bytes 4 0 ≡ 3) → response_to (6 ∷ rest) ≡ complete bytes
-    unfolding by_code
+    unfolding check_by
     within (inl e) = as_1 (Some Sufficient) (check_is 0 e) (inr refl) ∙ h
     within (inr e) = as_1 None (check_is 3 e) (inl refl) ∙ h
 
     pub close : get_or bytes 4 0 ≡ 2 → response_to (6 ∷ rest) ≡ refused 18
-    unfolding by_code
-    close e = (sheet_demand_2 (6 ∷ rest)).eighteen.1 (rw same_fields fields, too_close (checked s₆ Undecided (check_is 2 e)))
+    unfolding check_by
+    close e = (sheet_demand_2 (6 ∷ rest)).eighteen.1 (rw same_fields no_fault, check_too_close (checked s₆ Undecided (check_is 2 e)))
 
     pub check_over : get_or bytes 4 0 ≡ 1 → check_between s₆ ≡ Some Insufficient
-    unfolding by_code
+    unfolding check_by
     check_over = check_is 1

@@ -9,7 +9,7 @@ use native.Mathlib.Nat.{le_refl}
 use native.Mathlib.Omega.{arith}
 use lib.ListN.{length, get_or}
 use borrow.Author.Tests.{eqb-true, ne_eqb, not-false}
-use Rattle.std.specs.Prelude.{Some}
+use Rattle.std.specs.Prelude.{Option, Some}
 use Rattle.fractions.specs.declared.Bounds.{Bounds}
 use Rattle.lengths.specs.Ladder.{thickness_at}
 use Rattle.requirement.specs.declared.Goal.TheVariants.{Loss}
@@ -30,14 +30,14 @@ use Rattle.sheet.specs.declared.fields.Sheet.{Sheet}
 use Rattle.sheet.specs.Sheet.{decoded, difference, goal_of}
 use Rattle.sheet.specs.Search.{required_of}
 use Rattle.sheet.specs.Checks.{loss_check}
-use Rattle.sheet.specs.Passes.{second_aim, goal_in, deciding_pass}
+use Rattle.sheet.specs.Passes.{second_aim, goal_in, pass_after, deciding_pass}
 use Rattle.sheet.specs.Refusals.{response_to}
-use Rattle.sheet.proofs.Passes.{between, Printed, printed_for, second_aim_some}
+use Rattle.sheet.proofs.Passes.{no_check, between, Printed, printed_for, second_aim_some}
 use Rattle.demands.specs.Demands.{AnswerTo, Decides, Found, Checked}
 use Rattle.demands.proofs.Passes.{found_first}
 use Rattle.demands.proofs.Sheets.{sheet_demand_2}
-use Rattle.promises.specs.WithinLimit.{AnswerWith, loss_sheet, with_1, WithinLimit}
-use Rattle.promises.proofs.AsGoal1.{check_over, fields, refused_alike, within, close}
+use Rattle.promises.specs.WithinLimit.{AnswerWith, loss_sheet, with_byte_0_as_1, WithinLimit}
+use Rattle.promises.proofs.AsGoal1.{check_over, no_fault, refused_alike, within, close}
 use Rattle.promises.proofs.AsGoal2.{over_is_loss}
 
 -- a check where a limit is printed
@@ -49,19 +49,13 @@ check_of s p some = rw (ne_eqb _ 0 some)
 stricter : (s : Sheet) → Printed s → Below (required_of s (Loss (loss_limit s.service s.temperature))) (required_of s (Loss (second_aim s)))
 stricter s some = loss_requires_less s.line (difference s) (second_aim_some s some) (omega arith)
 
-some_is : {x y : Verdict} → Some x ≡ Some y → x ≡ y
-some_is e = cc
+is_second : (p : Pass) → pass_code p ≡ 1 → p ≡ Second
+is_second First e = absurd (omega (arith, e))
+is_second Second e = refl
 
-differ : {x : Verdict} → x ≡ Insufficient → x ≡ Sufficient → ⊥
-differ e f = cc
-
-pass_is : (p : Pass) → pass_code p ≡ 1 → p ≡ Second
-pass_is First e = absurd (omega (arith, e))
-pass_is Second e = refl
-
-first_is : (p : Pass) → pass_code p ≡ 0 → p ≡ First
-first_is First e = refl
-first_is Second e = absurd (omega (arith, e))
+is_first : (p : Pass) → pass_code p ≡ 0 → p ≡ First
+is_first First e = refl
+is_first Second e = absurd (omega (arith, e))
 
 -- an answered sheet
 module _ (sheet bytes : List ℕ) (h : response_to sheet ≡ complete bytes) where
@@ -71,16 +65,16 @@ module _ (sheet bytes : List ℕ) (h : response_to sheet ≡ complete bytes) whe
   got : AnswerTo s bytes
   got = (sheet_demand_2 sheet).answered bytes h
 
-  limited : s.limited ≡ true → get_or sheet 0 0 ≡ 6
+  only_6 : s.respects_limit ≡ true → get_or sheet 0 0 ≡ 6
   unfolding decoded
-  limited e = eqb-true _ _ e
+  only_6 e = eqb-true _ _ e
 
   goal_6_only : (get_or bytes 0 0 ≡ 0) ⊎ ((get_or bytes 0 0 ≡ 1) × (get_or sheet 0 0 ≡ 6))
   goal_6_only = by_pass (deciding_pass s) got.start got.pass
     where
       by_pass : (p : Pass) → get_or bytes 0 0 ≡ pass_code p → Decides s p → (get_or bytes 0 0 ≡ 0) ⊎ ((get_or bytes 0 0 ≡ 1) × (get_or sheet 0 0 ≡ 6))
       by_pass First start pass = inl start
-      by_pass Second start pass = inr (start, limited pass.limited)
+      by_pass Second start pass = inr (start, only_6 pass.respects)
 
 -- and one that is answered by the second pass
 module _ (sheet bytes : List ℕ) (h : AnswerWith 1 sheet bytes) where
@@ -91,37 +85,37 @@ module _ (sheet bytes : List ℕ) (h : AnswerWith 1 sheet bytes) where
   known = got sheet bytes h.answered
 
   second : deciding_pass t ≡ Second
-  second = pass_is _ (sym known.start ∙ h.start)
+  second = is_second _ (sym known.start ∙ h.start)
 
-  over_limit : Checked t Insufficient
-  over_limit = rw second at known.pass
+  says_over : Checked t Insufficient
+  says_over = rw second at known.pass
 
   printed : Printed t
-  printed = printed_for t _ _ over_limit.says
+  printed = printed_for t _ _ says_over.says
 
   check_within : get_or bytes 4 0 ≡ 0
   check_within =
-      let p = provided t.line (thickness_at known.rung) in
-      let enough : judged p (required_of t (Loss (second_aim t))) ≡ Sufficient = rw second at known.sufficient in
+      let p = provided t.line (thickness_at known.found.rung) in
+      let enough : judged p (required_of t (Loss (second_aim t))) ≡ Sufficient = rw second at known.found.sufficient in
       known.loss ∙ ap loss_code (check_of t p printed ∙ ap Some (sufficient_for_less p _ _ (stricter t printed) enough))
 
   thicker : (first : Found t (goal_of t)) → (thickness_at first.rung).0 < big_endian bytes 2 2
   thicker first =
       let q = required_of t (Loss (second_aim t)) in
-      let r = over_limit.found.rung in
-      let same : first.rung ≡ r = sym (found_first t (goal_of t) first) ∙ found_first t (goal_of t) over_limit.found in
+      let r = says_over.found.rung in
+      let same : first.rung ≡ r = sym (found_first t (goal_of t) first) ∙ found_first t (goal_of t) says_over.found in
       let p = provided t.line (thickness_at r) in
-      let too_thin : judged p (required_of t (Loss (loss_limit t.service t.temperature))) ≡ Insufficient = some_is (sym (check_of t p printed) ∙ over_limit.says) in
+      let too_thin : judged p (required_of t (Loss (loss_limit t.service t.temperature))) ≡ Insufficient = cc (sym (check_of t p printed) ∙ says_over.says) in
       let still : judged p q ≡ Insufficient = less_insufficient p p _ q (le_refl _, le_refl _) (stricter t printed) too_thin in
-      let enough : judged (provided t.line (thickness_at known.rung)) q ≡ Sufficient = rw second at known.sufficient in
-      let above : ¬ (known.rung ≤ r) = λ le. differ (insufficient_below t.line q le still) enough in
-      omega (arith, known.thickness, known.on_ladder, same)
+      let enough : judged (provided t.line (thickness_at known.found.rung)) q ≡ Sufficient = rw second at known.found.sufficient in
+      let above : ¬ (known.found.rung ≤ r) = λ le. cc (sym (insufficient_below t.line q le still) ∙ enough) in
+      omega (arith, known.thickness, known.found.on_ladder, same)
 
-checked_over : (rest bytes : List ℕ) → response_to (1 ∷ rest) ≡ complete bytes → get_or bytes 4 0 ≡ 1 → response_to (6 ∷ rest) ≡ with_1 (response_to (loss_sheet rest (second_aim (decoded (6 ∷ rest)))))
+checked_over : (rest bytes : List ℕ) → response_to (1 ∷ rest) ≡ complete bytes → get_or bytes 4 0 ≡ 1 → response_to (6 ∷ rest) ≡ with_byte_0_as_1 (response_to (loss_sheet rest (second_aim (decoded (6 ∷ rest)))))
 unfolding NoneHolds
 checked_over rest bytes h e =
     let is = check_over rest bytes h e in
-    let none = fields rest bytes h in
+    let none = no_fault rest bytes h in
     let s = decoded (6 ∷ rest) in
     let all : length (1 ∷ rest) ≡ 24 = eqb-true _ _ (not-false _ none.0) in
     over_is_loss rest (omega (arith, all)) (printed_for s _ _ (between s _ is).says) is none
@@ -129,9 +123,11 @@ checked_over rest bytes h e =
 pub within_limit : WithinLimit
 within_limit =
     record {
+      aim = λ s. (omega arith, omega arith);
+      one_pass = λ s e. (ap pass_after (no_check s e), ap (λ (c : Option Verdict). goal_in s (pass_after c)) (no_check s e));
       as_goal_1 = λ rest. record { refused_alike = refused_alike rest; within = within rest; close = close rest; over = checked_over rest };
       goal_6_only = goal_6_only;
-      first_equation = λ sheet bytes h. ap (goal_in (decoded sheet)) (first_is _ (sym (got sheet bytes h.answered).start ∙ h.start));
+      first_equation = λ sheet bytes h. ap (goal_in (decoded sheet)) (is_first _ (sym (got sheet bytes h.answered).start ∙ h.start));
       second_equation = λ sheet bytes h. ap (goal_in (decoded sheet)) (second sheet bytes h);
       check_within = check_within;
       thicker = thicker;

@@ -22,7 +22,7 @@ pub record Exchanged (cold hot : Sheet) : Type 0 where
   pub inward : cold.flow ≡ Inward
   pub outward : hot.flow ≡ Outward
   pub economy : (cold.goal ≡ ForEconomy) × (hot.goal ≡ ForEconomy)
-  pub one_pass : (cold.limited ≡ false) × (hot.limited ≡ false)
+  pub one_pass : (cold.respects_limit ≡ false) × (hot.respects_limit ≡ false)
   pub temperatures : (cold.temperature ≡ hot.ambient) × (cold.ambient ≡ hot.temperature)
   pub same_line : cold.line ≡ hot.line
   pub same_terms : cold.economy ≡ hot.economy

@@ -1,12 +1,16 @@
--- What is promised of goal 6, beside the demands and `SurfaceBound`, which speak of every goal. 02, N5: "Economy that respects the loss limit."
+-- What is promised of goal 6, beside the demands and `SurfaceBound`, which speak of every goal. 02, N5: "Economy that respects the loss
+-- limit." An answer has eight bytes (`AnswerTo.size`), so no byte of one that is read here is missing.
 -- Assumes nothing.
-use Rattle.std.specs.Prelude.{ℕ, ◌<◌, ◌≡◌, ◌⊎◌, List, ◌∷◌, ◌++◌, get_or, replicate, take, drop}
+use Rattle.std.specs.Prelude.{ℕ, ◌+◌, ◌*◌, ◌≤◌, ◌<◌, ◌≡◌, false, ◌⊎◌, List, ◌∷◌, ◌++◌, get_or, replicate, take, drop}
 use Rattle.lengths.specs.Ladder.{thickness_at}
 use Rattle.requirement.specs.declared.Goal.TheVariants.{Loss}
 use Rattle.big_endian.specs.Bytes.{big_endian, bytes_of}
 use Rattle.refusals.specs.Response.{Response, refused, complete}
+use Rattle.limits.specs.Limits.{loss_limit}
+use Rattle.answer.specs.declared.Pass.TheVariants.{First}
+use Rattle.sheet.specs.declared.fields.Sheet.{Sheet}
 use Rattle.sheet.specs.Sheet.{decoded, goal_of}
-use Rattle.sheet.specs.Passes.{second_aim, deciding}
+use Rattle.sheet.specs.Passes.{second_aim, deciding_pass, deciding_goal}
 use Rattle.sheet.specs.Refusals.{response_to}
 use Rattle.demands.specs.Demands.{Found}
 
@@ -20,9 +24,9 @@ abbrev pub loss_sheet : List ℕ → ℕ → List ℕ
 loss_sheet rest aim = 2 ∷ (take 13 rest ++ replicate 8 0 ++ bytes_of 2 aim)
 
 -- a response with 1 in place of the first byte
-abbrev pub with_1 : Response → Response
-with_1 (refused n) = refused n
-with_1 (complete bytes) = complete (1 ∷ drop 1 bytes)
+abbrev pub with_byte_0_as_1 : Response → Response
+with_byte_0_as_1 (refused n) = refused n
+with_byte_0_as_1 (complete bytes) = complete (1 ∷ drop 1 bytes)
 
 -- "Goal 6 is goal 1 with that second pass": what the sheet of goal 6 gives, by what that of goal 1 gives with all other bytes the same
 pub record AsGoal1 (rest : List ℕ) : Type 0 where
@@ -36,17 +40,21 @@ pub record AsGoal1 (rest : List ℕ) : Type 0 where
   -- rung.": all is as for the loss sheet with that aim, but for byte 0
   pub over :
       (bytes : List ℕ) → response_to (1 ∷ rest) ≡ complete bytes → get_or bytes 4 0 ≡ 1 →
-      response_to (6 ∷ rest) ≡ with_1 (response_to (loss_sheet rest (second_aim (decoded (6 ∷ rest)))))
+      response_to (6 ∷ rest) ≡ with_byte_0_as_1 (response_to (loss_sheet rest (second_aim (decoded (6 ∷ rest)))))
 
 pub record WithinLimit : Type 0 where
+  -- "90 per cent of the limit in tenths, rounded down"
+  pub aim : (s : Sheet) → let limit = loss_limit s.service s.temperature in (100 * second_aim s ≤ 90 * limit) × (90 * limit < 100 * (second_aim s + 1))
+  -- a goal that does not respect the limit, as 1 to 5, has one pass, by the sheet's own goal
+  pub one_pass : (s : Sheet) → s.respects_limit ≡ false → (deciding_pass s ≡ First) × (deciding_goal s ≡ goal_of s)
   pub as_goal_1 : (rest : List ℕ) → AsGoal1 rest
   -- byte 0 is 0 or 1, and 1 for goal 6 only
   pub goal_6_only : (sheet bytes : List ℕ) → response_to sheet ≡ complete bytes → (get_or bytes 0 0 ≡ 0) ⊎ ((get_or bytes 0 0 ≡ 1) × (get_or sheet 0 0 ≡ 6))
   -- it tells the goal that decides: "For such an answer the exact equation of demand 3 is the loss one of the second pass."
-  pub first_equation : (sheet bytes : List ℕ) → AnswerWith 0 sheet bytes → let s = decoded sheet in deciding s ≡ goal_of s
-  pub second_equation : (sheet bytes : List ℕ) → AnswerWith 1 sheet bytes → let s = decoded sheet in deciding s ≡ Loss (second_aim s)
+  pub first_equation : (sheet bytes : List ℕ) → AnswerWith 0 sheet bytes → let s = decoded sheet in deciding_goal s ≡ goal_of s
+  pub second_equation : (sheet bytes : List ℕ) → AnswerWith 1 sheet bytes → let s = decoded sheet in deciding_goal s ≡ Loss (second_aim s)
   -- the loss check of the second rung reads within, though its limit is the whole one
   pub check_within : (sheet bytes : List ℕ) → AnswerWith 1 sheet bytes → get_or bytes 4 0 ≡ 0
-  -- it is thicker than the rung that the first pass found
+  -- it is thicker than the rung that the first pass found; there is one, by `AnswerTo.pass`
   pub thicker :
       (sheet bytes : List ℕ) → AnswerWith 1 sheet bytes → let s = decoded sheet in (first : Found s (goal_of s)) → (thickness_at first.rung).0 < big_endian bytes 2 2

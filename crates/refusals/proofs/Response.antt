@@ -1,6 +1,6 @@
 -- What a call with a list of cases responds.
 -- Assumes nothing.
-use mathlib.Core.Path.{◌≡◌, refl}
+use mathlib.Core.Path.{◌≡◌, refl, sym, ◌∙◌}
 use mathlib.Core.Bool.{Bool, true, false, not, ◌&&◌, and-eq-true_iff}
 use mathlib.Core.Logic.{inl, inr}
 use mathlib.Mathlib.Data.Bool.Basic.{dichotomy}
@@ -62,6 +62,14 @@ unfolding FirstHolds respond
 first_counts n [] ds bytes first = absurd first
 first_counts n (c ∷ cs) ds bytes (inl here) = rw (here.0, here.1)
 first_counts n (c ∷ cs) ds bytes (inr behind) = rw behind.0 (first_counts n cs ds bytes behind.1)
+
+-- a refusal by the cases in front is the same whatever stands behind them
+pub from_front : (n : ℕ) (cs ds es : List Case) (x y : List ℕ) → respond ds x ≡ complete x → respond (cs ++ ds) x ≡ refused n → respond (cs ++ es) y ≡ refused n
+from_front n cs ds es x y none h =
+    elim (first_or_complete cs x) [
+      | inl first ↦ let same = first_counts first.0 cs ds x first.1 in first_counts first.0 cs es y first.1 ∙ (sym same ∙ h)
+      | inr nothing ↦ let given = later cs ds x nothing.0 ∙ none in cc
+    ]
 
 -- A number that no case in front has: none in front holds.
 pub behind : (n : ℕ) (cs ds : List Case) (bytes : List ℕ) → absent n cs ≡ true → respond (cs ++ ds) bytes ≡ refused n → NoneHolds cs × (respond ds bytes ≡ refused n)

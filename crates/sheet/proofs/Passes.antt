@@ -7,8 +7,6 @@ use native.Mathlib.Omega.{arith}
 use borrow.Author.Tests.{eq-eqb}
 use Rattle.std.specs.Prelude.{Option, Some, None}
 use Rattle.fractions.specs.declared.Bounds.{Bounds}
-use Rattle.lengths.specs.Ladder.{thickness_at}
-use Rattle.provision.specs.Provided.{provided}
 use Rattle.verdict.specs.declared.Verdict.{Verdict}
 use Rattle.verdict.specs.declared.Verdict.TheVariants.{Sufficient, Insufficient, Undecided}
 use Rattle.requirement.specs.Ranges.{GoalInRange}
@@ -17,32 +15,27 @@ use Rattle.limits.proofs.Size.{some_size, limit_size}
 use Rattle.answer.specs.declared.Pass.TheVariants.{Second}
 use Rattle.sheet.specs.declared.fields.Sheet.{Sheet}
 use Rattle.sheet.specs.Sheet.{goal_of}
-use Rattle.sheet.specs.Search.{first_by}
 use Rattle.sheet.specs.Checks.{loss_check}
-use Rattle.sheet.specs.Passes.{second_aim, goal_in, succeeds, check_between, pass_after, deciding}
+use Rattle.sheet.specs.Passes.{second_aim, goal_in, succeeds, first_check, check_between, pass_after, too_close, deciding_goal}
 use Rattle.sheet.specs.Admitted.{Admitted}
 
--- the loss check of the first pass's rung
-abbrev pub first_check : Sheet → Option Verdict
-first_check s = loss_check s (provided s.line (thickness_at (first_by s (goal_of s))))
-
--- it is the check between the passes, and says v
+-- the first pass's check is one between the passes, and says v
 pub record Between (s : Sheet) (v : Verdict) : Type 0 where
-  pub limited : s.limited ≡ true
+  pub respects : s.respects_limit ≡ true
   pub succeeded : succeeds s (goal_of s) ≡ true
   pub says : first_check s ≡ Some v
 
 pub between : (s : Sheet) (v : Verdict) → check_between s ≡ Some v → Between s v
 unfolding check_between
-between s v = go s.limited (succeeds s (goal_of s)) refl refl
+between s v = go s.respects_limit (succeeds s (goal_of s)) refl refl
   where
-    go : (a b : Bool) → s.limited ≡ a → succeeds s (goal_of s) ≡ b → cond (a && b) (first_check s) None ≡ Some v → Between s v
-    go true true e f h = record { limited = e; succeeded = f; says = h }
+    go : (a b : Bool) → s.respects_limit ≡ a → succeeds s (goal_of s) ≡ b → cond (a && b) (first_check s) None ≡ Some v → Between s v
+    go true true e f h = record { respects = e; succeeded = f; says = h }
     go true false e f h = cc
     go false b e f h = cc
 
 -- a goal that does not have to respect the limit has no such check, and so its first pass decides
-pub no_check : (s : Sheet) → s.limited ≡ false → check_between s ≡ None
+pub no_check : (s : Sheet) → s.respects_limit ≡ false → check_between s ≡ None
 unfolding check_between
 no_check s e = ap (λ (b : Bool). cond (b && succeeds s (goal_of s)) (first_check s) None) e
 
@@ -52,6 +45,13 @@ after_over (Some Sufficient) e = cc
 after_over (Some Insufficient) e = refl
 after_over (Some Undecided) e = cc
 after_over None e = cc
+
+-- and 18 after one that says too close
+pub after_close : (c : Option Verdict) → too_close c ≡ true → c ≡ Some Undecided
+after_close (Some Sufficient) e = cc
+after_close (Some Insufficient) e = cc
+after_close (Some Undecided) e = refl
+after_close None e = cc
 
 -- a limit is printed, as every check tells
 abbrev pub Printed : Sheet → Type 0
@@ -65,7 +65,7 @@ pub second_aim_some : (s : Sheet) → Printed s → 1 ≤ second_aim s
 second_aim_some s some = omega (arith, some_size (limit_size s.service s.temperature) some)
 
 -- the goal that decides an admitted sheet is in range
-pub deciding_in_range : (s : Sheet) → Admitted s → GoalInRange (deciding s)
+pub deciding_in_range : (s : Sheet) → Admitted s → GoalInRange (deciding_goal s)
 deciding_in_range s in_range = go (check_between s) refl
   where
     go : (c : Option Verdict) → check_between s ≡ c → GoalInRange (goal_in s (pass_after c))

@@ -1,5 +1,4 @@
--- What is sent back. 01, "Sent back because of the sheet"; 02, N4: "Refusals 12 to 16 read these conditions for goals 4 and 5";
--- and N5.
+-- What is sent back. 01, "Sent back because of the sheet", and 02, N5; N4: "Refusals 12 to 16 read these conditions for goals 4 and 5".
 -- Assumes nothing.
 use Rattle.std.specs.Prelude.{ℕ, Bool, false, not, ◌&&◌, ◌||◌, List, [], ◌∷◌, ◌++◌, eqb, length, is_some}
 use Rattle.lengths.specs.Ladder.{rungs}

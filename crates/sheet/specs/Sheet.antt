@@ -24,8 +24,8 @@ abbrev pub flow_of : ℕ → HeatFlow
 flow_of n = cond (eqb n 4 || eqb n 5) Inward Outward
 
 -- goal 6 is that of "Economy that respects the loss limit" (02, N5)
-abbrev pub within_limit : ℕ → Bool
-within_limit n = eqb n 6
+abbrev pub respects_limit : ℕ → Bool
+respects_limit n = eqb n 6
 
 -- "2–3": the "line number", which no other figure depends on
 abbrev pub line_number : List ℕ → ℕ
@@ -38,7 +38,7 @@ decoded b =
       code = get_or b 0 0;
       goal = goal_code (get_or b 0 0);
       flow = flow_of (get_or b 0 0);
-      limited = within_limit (get_or b 0 0);
+      respects_limit = respects_limit (get_or b 0 0);
       service = get_or b 1 0;
       line = record { diameter = tenths (big_endian b 4 2); conductivity = big_endian b 10 2; coefficient = big_endian b 12 2 };
       temperature = signed (big_endian b 6 2);
@@ -47,8 +47,8 @@ decoded b =
       aim = big_endian b 22 2;
     }
 
--- "Offsets 14–21 are used for goal 1 only"; "Goal 5 uses offsets 14–21 as goal 1 does and its aim is zero." (02, N4); goal 6 is "goal 1 with"
--- a "second pass; its aim is zero" (02, N5)
+-- "Offsets 14–21 are used for goal 1 only"; "Goal 5 uses offsets 14–21 as goal 1 does and its aim is zero." (02, N4); "Goal 6 is goal 1
+-- with that second pass; its aim is zero." (02, N5)
 abbrev pub uses_economy : GoalCode → Bool
 uses_economy ForEconomy = true
 uses_economy ForLoss = false

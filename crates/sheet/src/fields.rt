@@ -1,6 +1,6 @@
 // The fields of a sheet's 24 bytes.
 ghost use Rattle.std.specs.Prelude.{◌≡◌, length};
-ghost use Rattle.sheet.specs.Sheet.{goal_code, flow_of, within_limit, uses_economy, uses_aim, decoded};
+ghost use Rattle.sheet.specs.Sheet.{goal_code, flow_of, respects_limit, uses_economy, uses_aim, decoded};
 
 use big_endian::unsigned;
 use heat_flow::HeatFlow;
@@ -55,22 +55,22 @@ fn flow_of(code: u64) -> HeatFlow
     }
 }
 
-// Does a goal's code ask for a thickness that respects the loss limit? 6 does.
-fn within_limit(code: u64) -> bool
-    ensures { result ≡ within_limit code }
+// Does the goal of a code respect the loss limit? That of 6 does.
+fn respects_limit(code: u64) -> bool
+    ensures { result ≡ respects_limit code }
 {
     code == 6
 }
 
-// The goal's code as it is written and as it is read, the direction of the heat's flow, whether the thickness has to respect the loss limit, the service, the insulated line, the temperatures t
-// of the pipe and ta of the air, the economy terms, and the aim as it is written. Any 24 bytes are a sheet, so code and service are numbers:
-// refusal 12 is of a number that is no goal or service.
+// The goal's code as it is written and as it is read, the direction of the heat's flow, whether the goal respects the loss limit, the
+// service, the insulated line, the temperatures t of the pipe and ta of the air, the economy terms, and the aim as it is written. Any 24
+// bytes are a sheet, so code and service are numbers: refusal 12 is of a number that is no goal or service.
 #[derive(Clone, Copy, Debug, PartialEq, Eq)]
 pub struct Sheet {
     pub code: u64,
     pub goal: GoalCode,
     pub flow: HeatFlow,
-    pub limited: bool,
+    pub respects_limit: bool,
     pub service: u64,
     pub line: Line,
     pub temperature: Temperature,
@@ -91,7 +91,7 @@ impl Sheet {
             code,
             goal: GoalCode::of(code),
             flow: flow_of(code),
-            limited: within_limit(code),
+            respects_limit: respects_limit(code),
             service: bytes[1] as u64,
             line: Line {
                 diameter: Diameter(unsigned(bytes, 4)),

@@ -1,4 +1,3 @@
 pub mod FirstRung
 pub mod Judgement
 pub mod Growth
-pub mod Choices

@@ -5,8 +5,8 @@ use Rattle.answer.specs.declared.Pass.TheVariants.{First}
 use Rattle.sheet.specs.Sheet.{goal_of}
 use Rattle.sheet.specs.Passes.{check_between, deciding_pass}
 use Rattle.sheet.proofs.Passes.{after_over}
-use Rattle.outcome.specs.Pass.{pass_by}
-use Rattle.outcome.proofs.Passes.{next, next_refused, next_pass, unchecked, checked, refused_by, Given, given, closed}
+use Rattle.outcome.specs.Pass.{pass_by, next}
+use Rattle.outcome.proofs.Passes.{next_refused, next_pass, unchecked, checked, refused_by, Given, given, closed}
 use Rattle.outcome.proofs.work.search_ladder.Goals.{After-next_pass, In-First}
 use Rattle.outcome.proofs.work.search_ladder.Goals as goal
 
@@ -42,7 +42,7 @@ returns-in_err-next_pass c =
 pub answer_of-requires : goal.answer_of-requires
 answer_of-requires c =
     let g = stands (goal.at.answer_of-requires c).In-First in
-    (sym g.0, rw g.1.found.is g.1.found.on_ladder, rw g.1.found.is refl, c.loss_check-loss.ensures)
+    record { decides = sym g.0; found = (rw g.1.found.is g.1.found.on_ladder, rw g.1.found.is refl); checked = c.loss_check-loss.ensures }
 
 pub second_pass-requires : goal.second_pass-requires
 second_pass-requires c =

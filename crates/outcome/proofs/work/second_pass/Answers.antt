@@ -8,14 +8,14 @@ use Rattle.outcome.proofs.Passes.{refused_by, given}
 use Rattle.outcome.proofs.work.second_pass.Goals.{Start}
 use Rattle.outcome.proofs.work.second_pass.Goals as goal
 
-limited : (c : Start) → Printed c.args.sheet.sheet
-limited c = let s = c.args.sheet.sheet in printed_for s _ _ (between s _ c.requires.1).says
+printed : (c : Start) → Printed c.args.sheet.sheet
+printed c = let s = c.args.sheet.sheet in printed_for s _ _ (between s _ c.requires.1).says
 
 pub second_goal-requires : goal.second_goal-requires
-second_goal-requires c = rw (c.args.sheet.limit_is, ne_eqb _ 0 (limited c))
+second_goal-requires c = rw (c.args.sheet.limit_is, ne_eqb _ 0 (printed c))
 
 pub pass-requires : goal.pass-requires
-pass-requires c = (c.requires.0, rw c.second_goal.ensures (second_aim_some c.args.sheet.sheet (limited (goal.at.pass-requires c).Start)))
+pass-requires c = (c.requires.0, rw c.second_goal.ensures (second_aim_some c.args.sheet.sheet (printed (goal.at.pass-requires c).Start)))
 
 pub returns-in_err-rung : goal.returns-in_err-rung
 returns-in_err-rung c =
