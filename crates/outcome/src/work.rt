@@ -1,7 +1,6 @@
 // The call that answers a sheet.
 ghost use Rattle.std.specs.Prelude.{◌≡◌, ◌<◌, cond, IfOk, IfErr, Some, None};
 ghost use Rattle.verdict.specs.declared.Verdict.TheVariants.{Insufficient};
-ghost use Rattle.requirement.specs.Ranges.{GoalInRange};
 ghost use Rattle.lengths.specs.Ladder.{thickness_at, rungs};
 ghost use Rattle.refusals.specs.Cases.{NoneHolds, FirstHolds};
 ghost use Rattle.refusals.specs.Numbers.{number_of};
@@ -13,14 +12,15 @@ ghost use Rattle.answer.specs.Answer.{encoded};
 ghost use Rattle.sheet.specs.Answer.{answer_of};
 ghost use Rattle.sheet.specs.Refusals.{value_cases, ladder_cases, response_to};
 ghost use Rattle.outcome.specs.Outcome.{response};
-ghost use Rattle.outcome.specs.Pass.{pass_by, next};
+ghost use Rattle.outcome.specs.Pass.{passed, next};
 
 use answer::{Answer, Pass};
 use checks::AdmittedSheet;
+use fractions::Bounds;
 use lengths::Ladder;
 use provision::Provision;
 use refusals::Refusal;
-use requirement::{Goal, required};
+use requirement::required;
 use sheet::Sheet;
 use verdict::{Rung, Verdict, judge, search};
 
@@ -71,7 +71,8 @@ fn search_ladder(sheet: AdmittedSheet) -> Result<Answer, Refusal>
     ensures { response result ≡ respond (ladder_cases sheet.sheet) (encoded (answer_of sheet.sheet (chosen sheet.sheet))) }
 {
     let prepared = Provision::of(sheet.at.line);
-    let first = pass(sheet, prepared, sheet.goal())?;
+    let need = required(sheet.at, sheet.goal());
+    let first = pass(prepared, need)?;
     let loss = sheet.loss_check(first.provided);
     match next_pass(sheet.sheet.respects_limit, loss)? {
         Pass::First => Ok(answer_of(sheet, Pass::First, first, loss)),
@@ -95,17 +96,16 @@ fn second_pass(sheet: AdmittedSheet, prepared: Provision) -> Result<Answer, Refu
     requires { (prepared.line ≡ sheet.at.line) × (check_between sheet.sheet ≡ Some Insufficient) }
     ensures { response result ≡ respond (ladder_cases sheet.sheet) (encoded (answer_of sheet.sheet (chosen sheet.sheet))) }
 {
-    let rung = pass(sheet, prepared, sheet.second_goal())?;
+    let need = required(sheet.at, sheet.second_goal());
+    let rung = pass(prepared, need)?;
     let loss = sheet.loss_check(rung.provided);
     Ok(answer_of(sheet, Pass::Second, rung, loss))
 }
 
-// A pass over the ladder: the first rung that does not miss has to meet.
-fn pass(sheet: AdmittedSheet, prepared: Provision, goal: Goal) -> Result<Rung, Refusal>
-    requires { (prepared.line ≡ sheet.at.line) × GoalInRange goal }
-    ensures { result ≡ pass_by sheet.sheet goal }
+// A pass over the ladder: the first rung that does not miss the need has to meet it.
+fn pass(prepared: Provision, need: Bounds) -> Result<Rung, Refusal>
+    ensures { result ≡ passed prepared.line.line need }
 {
-    let need = required(sheet.at, goal);
     let rung = search(prepared, need).ok_or(Refusal::NoneSufficient)?;
     let open = judge(rung.provided, need).is_undecided();
     if open {

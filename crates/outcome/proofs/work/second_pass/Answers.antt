@@ -1,28 +1,35 @@
 -- The loss check is over, so the second pass decides, and a limit is printed.
-use Rattle.std.proofs.Common.{sym}
+use Rattle.std.proofs.Common.{◌≡◌, sym, ◌∙◌}
 use borrow.Author.Tests.{ne_eqb}
 use Rattle.std.proofs.lemmas.Result.{err_from_is_err_and}
+use Rattle.sheet.specs.Passes.{goal_in}
 use Rattle.sheet.proofs.Passes.{between, Printed, printed_for, second_aim_some}
 use Rattle.answer.specs.declared.Pass.TheVariants.{Second}
+use Rattle.outcome.specs.Pass.{pass_by}
 use Rattle.outcome.proofs.Passes.{refused_by, given}
-use Rattle.outcome.proofs.work.second_pass.Goals.{Start}
+use Rattle.outcome.proofs.work.second_pass.Goals.{Start, After-pass}
 use Rattle.outcome.proofs.work.second_pass.Goals as goal
 
 printed : (c : Start) → Printed c.args.sheet.sheet
 printed c = let s = c.args.sheet.sheet in printed_for s _ _ (between s _ c.requires.1).says
 
-pub second_goal-requires : goal.second_goal-requires
-second_goal-requires c = rw (c.args.sheet.limit_is, ne_eqb _ 0 (printed c))
+by_second_goal : (c : After-pass) → let s = c.args.sheet.sheet in pass_by s (goal_in s Second) ≡ c.pass.result
+by_second_goal c = sym (rw (c.requires.0, c.required-need.ensures, c.second_goal.ensures, c.args.sheet.line_is, c.args.sheet.difference_is) at c.pass.ensures)
 
-pub pass-requires : goal.pass-requires
-pass-requires c = (c.requires.0, rw c.second_goal.ensures (second_aim_some c.args.sheet.sheet (printed (goal.at.pass-requires c).Start)))
+pub second_goal-requires : goal.second_goal-requires
+second_goal-requires c = rw (c.args.sheet.limit_is, ne_eqb _ 0 (printed (goal.at.second_goal-requires c).Start))
+
+pub required-need-requires : goal.required-need-requires
+required-need-requires c = rw c.second_goal.ensures (second_aim_some c.args.sheet.sheet (printed (goal.at.required-need-requires c).Start))
 
 pub returns-in_err-rung : goal.returns-in_err-rung
 returns-in_err-rung c =
     let p = err_from_is_err_and c.from_residual.result c.from_residual.ensures.1 in
-    rw (p.1, p.2) (sym (refused_by c.args.sheet.sheet Second (rw c.requires.1) (rw c.requires.1) _ _ (rw (← c.second_goal.ensures, ← c.pass.ensures) c.in_err-rung.was)))
+    let is = by_second_goal (goal.at.returns-in_err-rung c).After-pass in
+    rw (p.1, p.2) (sym (refused_by c.args.sheet.sheet Second (rw c.requires.1) (rw c.requires.1) _ _ (is ∙ c.in_err-rung.was)))
 
 pub returns : goal.returns
 returns c =
-    let g = given c.args.sheet.sheet Second (rw c.requires.1) (rw c.requires.1) c.in_ok-rung.rung (rw (← c.second_goal.ensures, ← c.pass.ensures) c.in_ok-rung.was) in
+    let is = by_second_goal (goal.at.returns c).After-pass in
+    let g = given c.args.sheet.sheet Second (rw c.requires.1) (rw c.requires.1) c.in_ok-rung.rung (is ∙ c.in_ok-rung.was) in
     rw (c.answer_of.ensures, g.found.is) (sym (g.response _))
