@@ -97,12 +97,13 @@ fn second_pass(sheet: AdmittedSheet, prepared: Provision) -> Result<Answer, Refu
     ensures { response result ≡ respond (ladder_cases sheet.sheet) (encoded (answer_of sheet.sheet (chosen sheet.sheet))) }
 {
     let need = required(sheet.at, sheet.second_goal());
-    let rung = pass(prepared, need)?;
+    let rung = pass_apart(prepared, need)?;
     let loss = sheet.loss_check(rung.provided);
     Ok(answer_of(sheet, Pass::Second, rung, loss))
 }
 
 // A pass over the ladder: the first rung that does not miss the need has to meet it.
+#[inline(always)]
 fn pass(prepared: Provision, need: Bounds) -> Result<Rung, Refusal>
     ensures { result ≡ passed prepared.line.line need }
 {
@@ -112,6 +113,14 @@ fn pass(prepared: Provision, need: Bounds) -> Result<Rung, Refusal>
         return Err(Refusal::TooClose);
     }
     Ok(rung)
+}
+
+// The same apart from the code of the first pass, which every sheet takes and which is inlined.
+#[inline(never)]
+fn pass_apart(prepared: Provision, need: Bounds) -> Result<Rung, Refusal>
+    ensures { result ≡ passed prepared.line.line need }
+{
+    pass(prepared, need)
 }
 
 // The answer with a rung, by the pass that found it.

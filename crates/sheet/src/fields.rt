@@ -19,15 +19,18 @@ pub enum GoalCode {
 
 impl GoalCode {
     // Not a `TryFrom`: every code has a reading, since refusal 12 is of the number as it is written. Nor a `From`, since this and `flow_of`
-    // are two readings of one number.
+    // are two readings of one number. No `match`: jumps are made of it, and a refused sheet takes a quarter longer.
     pub(crate) fn of(code: u64) -> GoalCode
         ensures { result ≡ goal_code code }
     {
-        match code {
-            1 | 5 | 6 => GoalCode::ForEconomy,
-            2 => GoalCode::ForLoss,
-            _ => GoalCode::ForSurface,
+        let economy = (code == 1) | (code == 5) | (code == 6);
+        if economy {
+            return GoalCode::ForEconomy;
         }
+        if code == 2 {
+            return GoalCode::ForLoss;
+        }
+        GoalCode::ForSurface
     }
 
     // Does the goal use the prices, the hours and the yearly share?
