@@ -114,11 +114,13 @@ module _ (sheet : List ℕ) where
       let got = behind 18 (field_cases sheet) (ladder_cases s) (answer sheet) refl h in
       let end = behind 18 (case 17 (eqb (chosen s) rungs) ∷ []) (case 18 (open_or_close s) ∷ []) (answer sheet) refl got.1 in
       let some : ¬ (chosen s ≡ rungs) = eqb-false _ _ end.0.0 in
-      let lt : chosen s < rungs = omega (arith, first_within (verdicts s)) in
-      (got.0, elim (or_cases _ _ (front 18 (open_or_close s) [] (answer sheet) refl end.1)) [
-        | inl u ↦ open_in (deciding_pass s) (reaches s (deciding_pass s) refl) (chosen s, lt, undecided_if _ u, misses_before (verdicts s))
-        | inr c ↦ check_too_close (checked s Undecided (after_close (check_between s) c))
-      ])
+      let lt : chosen s < rungs = omega (arith, first_within (verdicts s)) in (
+        got.0,
+        elim (or_cases _ _ (front 18 (open_or_close s) [] (answer sheet) refl end.1)) [
+          | inl u ↦ open_in (deciding_pass s) (reaches s (deciding_pass s) refl) (chosen s, lt, undecided_if _ u, misses_before (verdicts s))
+          | inr c ↦ check_too_close (checked s Undecided (after_close (check_between s) c))
+        ],
+      )
 
   when_open : Eighteen s → (chosen s < rungs) × (open_or_close s ≡ true)
   when_open (open_in p reached f) =

@@ -11,7 +11,7 @@ use borrow.Author.Tests.{leb-true, leb-false, eqb-false, ne_eqb}
 use borrow.Enum.Match.{each_below}
 use Rattle.temperatures.specs.declared.Temperature.{Temperature}
 use Rattle.temperatures.specs.Temperature.{zero_degrees}
-use Rattle.std.specs.Prelude.{if◌then◌else◌, Option, Some, None}
+use Rattle.std.specs.Prelude.{if◌then◌else◌, Some, None}
 use Rattle.limits.specs.Limits.{limit_of, interpolated, loss_limit}
 use Rattle.limits.specs.Printed.{printed}
 use Rattle.limits.proofs.Rows.{nth, row_of, past, position, limit_at, limit_at_lem, none_below}
@@ -29,6 +29,7 @@ row_size service n lt = by_column _ (elim (eqb service 1 || eqb service 3) as (�
   where
     year_round : (n : ℕ) → n < 14 → (nth n).year_round ≤ 314
     year_round = each_below 14 (λ n. (nth n).year_round ≤ 314) (omega arith)
+
     seasonal : (n : ℕ) → n < 14 → (nth n).seasonal ≤ 314
     seasonal = each_below 14 (λ n. (nth n).seasonal ≤ 314) (omega arith)
 
@@ -44,7 +45,7 @@ line_size low high x (inr l) (inr h) (inl le) =
 beyond_size : (service n x : ℕ) → n < 13 → (suc n < 13 → x < 500) → Size (limit_at service n x)
 beyond_size service n x lt near =
     let low = row_size service n (omega arith) in
-    let line = line_size _ _ x low (row_size service (suc n) (omega arith)) (elim (eq-or-lt_of_le lt) [ | inl e ↦ inr (last n (omega arith)) | inr next ↦ inl (omega (arith, near next)) ]) in
+    let line = line_size _ _ x low (row_size service (suc n) (omega arith)) (elim (eq-or-lt_of_le lt) [ inl e ↦ inr (last n (omega arith)) | inr next ↦ inl (omega (arith, near next)) ]) in
     elim (leb service 2 || eqb x 0) as (λ b. Size (cond b (limit_of service (nth n)) (interpolated (limit_of service (nth n)) (limit_of service (nth (suc n))) 500 x))) [ true ↦ low | false ↦ line ]
   where
     last : (n : ℕ) → n ≡ 12 → limit_of service (nth (suc n)) ≡ 0

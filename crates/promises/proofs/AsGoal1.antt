@@ -89,8 +89,8 @@ module _ (rest : List ℕ) where
     unfolding found_1 big_endian decoded check_between loss_check
     check =
         got.loss ∙ ap loss_code (
-          ap (λ (r : ℕ). loss_check s₁ (provided s₁.line (thickness_at r))) (sym (found_first s₁ (goal_of s₁) found_1))
-          ∙ ap (λ (b : Bool). cond b (first_check s₆) None) (sym (found_succeeds s₁ (goal_of s₁) found_1)))
+        ap (λ (r : ℕ). loss_check s₁ (provided s₁.line (thickness_at r))) (sym (found_first s₁ (goal_of s₁) found_1))
+        ∙ ap (λ (b : Bool). cond b (first_check s₆) None) (sym (found_succeeds s₁ (goal_of s₁) found_1)))
 
     check_is : (n : ℕ) → get_or bytes 4 0 ≡ n → check_between s₆ ≡ check_by n
     check_is n e = sym (check_back (check_between s₆)) ∙ ap check_by (sym check ∙ e)
