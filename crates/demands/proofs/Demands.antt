@@ -8,11 +8,11 @@ use Rattle.lengths.specs.Ladder.{thickness_at}
 use Rattle.refusals.specs.Cases.{numbers}
 use Rattle.refusals.specs.Response.{after}
 use Rattle.refusals.proofs.Response.{first_or_complete}
+use Rattle.big_endian.specs.Bytes.{big_endian}
 use Rattle.requirement.specs.Exact.{denominator}
 use Rattle.requirement.proofs.Requirements.{in_range_proper}
 use Rattle.verdict.proofs.FirstRung.{least_anywhere}
 use Rattle.verdict.proofs.Judgement.{MeetsOn, MissesOn, meets_stays, sound}
-use Rattle.big_endian.specs.Bytes.{big_endian}
 use Rattle.sheet.specs.declared.fields.Sheet.{Sheet}
 use Rattle.sheet.specs.Sheet.{decoded, difference}
 use Rattle.sheet.specs.Search.{requirement_of}

@@ -10,16 +10,16 @@ use lib.Dec.{eqb}
 use borrow.Author.Tests.{eqb-true, eqb-false}
 use Rattle.std.proofs.lemmas.Bool.{or_parts, or_cases}
 use Rattle.lengths.specs.Ladder.{rungs, thickness_at}
+use Rattle.temperatures.specs.Temperature.{decoded as signed, encoded as twos_complement}
+use Rattle.temperatures.proofs.TwosComplement.{turned_back}
 use Rattle.refusals.specs.Cases.{Case, case, NoneHolds}
 use Rattle.refusals.specs.Response.{refused, complete}
 use Rattle.refusals.proofs.Response.{later, absent, completed, behind, front}
-use Rattle.verdict.specs.declared.Verdict.TheVariants.{Sufficient, Undecided}
-use Rattle.verdict.proofs.FirstRung.{sufficient_unless, undecided_if, first_within, misses_before, first_not_insufficient_lem, first_none}
 use Rattle.big_endian.proofs.Numerals.{number_bytes}
 use Rattle.big_endian.specs.Bytes.{big_endian, bytes_of}
-use Rattle.temperatures.specs.Temperature.{decoded as signed, encoded as twos_complement}
-use Rattle.temperatures.proofs.TwosComplement.{turned_back}
 use Rattle.heat_flow.proofs.Differences.{bound_fits}
+use Rattle.verdict.specs.declared.Verdict.TheVariants.{Sufficient, Undecided}
+use Rattle.verdict.proofs.FirstRung.{sufficient_unless, undecided_if, first_within, misses_before, first_not_insufficient_lem, first_none}
 use Rattle.answer.specs.declared.Answer.{Answer}
 use Rattle.answer.specs.Answer.{encoded}
 use Rattle.sheet.specs.declared.fields.Sheet.{Sheet}

@@ -8,22 +8,22 @@ use Rattle.lengths.specs.Units.{millimetres}
 use Rattle.lengths.specs.Ladder.{rungs, thickness_at}
 use Rattle.temperatures.specs.declared.Temperature.{Temperature}
 use Rattle.temperatures.specs.Temperature.{decoded as signed}
+use Rattle.refusals.specs.Cases.{numbers, NoneHolds}
+use Rattle.refusals.specs.Response.{refused, complete, FirstOrComplete}
+use Rattle.big_endian.specs.Bytes.{big_endian}
 use Rattle.quadrature.specs.Cuttings.{lower_sum, upper_sum}
 use Rattle.heat_flow.specs.declared.HeatFlow.{HeatFlow}
 use Rattle.heat_flow.specs.declared.HeatFlow.TheVariants.{Outward, Inward}
-use Rattle.refusals.specs.Cases.{numbers, NoneHolds}
-use Rattle.refusals.specs.Response.{refused, complete, FirstOrComplete}
 use Rattle.line.specs.Line.{shape_of}
-use Rattle.provision.specs.Provided.{provided}
-use Rattle.provision.specs.Exact.{provided_exactly}
 use Rattle.requirement.specs.declared.Goal.{Goal}
 use Rattle.requirement.specs.Exact.{Meets, Misses, denominator}
+use Rattle.provision.specs.Provided.{provided}
+use Rattle.provision.specs.Exact.{provided_exactly}
 use Rattle.verdict.specs.declared.Verdict.{Verdict}
 use Rattle.verdict.specs.declared.Verdict.TheVariants.{Sufficient, Insufficient, Undecided}
 use Rattle.answer.specs.declared.Pass.{Pass}
 use Rattle.answer.specs.declared.Pass.TheVariants.{First, Second}
 use Rattle.answer.specs.Answer.{pass_code, shape_code, check_code, loss_code}
-use Rattle.big_endian.specs.Bytes.{big_endian}
 use Rattle.sheet.specs.declared.fields.Sheet.{Sheet}
 use Rattle.sheet.specs.Sheet.{decoded, difference, goal_of}
 use Rattle.sheet.specs.Search.{requirement_of, verdicts_by}
@@ -75,7 +75,7 @@ pub record Checked (s : Sheet) (v : Verdict) : Type 0 where
   pub found : Found s (goal_of s)
   pub says : loss_check s (provided s.line (thickness_at found.rung)) ≡ Some v
 
--- "If the loss check says over, the rung is found again by the loss method": every sheet comes to the first pass, and such a one to the second
+-- which passes a sheet comes to: every sheet to the first, and to the second "If the loss check says over"
 abbrev pub Reaches : Sheet → Pass → Type 0
 Reaches s First = Unit {0}
 Reaches s Second = Checked s Insufficient
@@ -162,8 +162,8 @@ pub record Demand2 : Type 0 where
 -- Demand 3: "For every answered sheet, every cutting of the logarithm's area that the paper allows, however fine, and every rung of the
 -- ladder: that rung equals the thickness we give exactly when it meets the exact equation on that cutting's under-sum and the rung below
 -- it, if there is one, misses it on that cutting's over-sum." "the thickness is bytes 2–3 of the answer, and both rungs are judged by the
--- sheet's own goal" (01, "Ladder and figures"); after a second pass "the exact equation of demand 3 is the loss one of the second pass" (02,
--- N5). On a flat wall `provided_exactly` reads no sum: "there the same holds with the exact equation alone judging both rungs".
+-- sheet's own goal" (01, "Ladder and figures"); after a second pass "the exact equation of demand 3 is the loss one of the second pass"
+-- (02, N5). On a flat wall `provided_exactly` reads no sum: "there the same holds with the exact equation alone judging both rungs".
 abbrev pub Demand3 : Type 0
 Demand3 =
     (sheet bytes : List ℕ) → response_to sheet ≡ complete bytes → (m : ℕ) → 1 ≤ m → (r : ℕ) → r < rungs →

@@ -9,9 +9,9 @@ use native.Mathlib.Omega.{arith}
 use lib.Dec.{leb, eqb}
 use borrow.Author.Tests.{leb-true, leb-false, eqb-false, ne_eqb}
 use borrow.Enum.Match.{each_below}
+use Rattle.std.specs.Prelude.{if◌then◌else◌, Some, None}
 use Rattle.temperatures.specs.declared.Temperature.{Temperature}
 use Rattle.temperatures.specs.Temperature.{zero_degrees}
-use Rattle.std.specs.Prelude.{if◌then◌else◌, Some, None}
 use Rattle.limits.specs.Limits.{limit_of, interpolated, loss_limit}
 use Rattle.limits.specs.Printed.{printed}
 use Rattle.limits.proofs.Rows.{nth, row_of, past, position, limit_at, limit_at_lem, none_below}

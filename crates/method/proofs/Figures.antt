@@ -4,6 +4,8 @@ use mathlib.Core.Path.{◌≡◌, refl}
 use mathlib.Core.List.{flat_map}
 use native.Mathlib.Omega.{arith}
 use Rattle.fractions.specs.Fraction.{Fraction, ◌over◌}
+use Rattle.refusals.specs.Response.{respond}
+use Rattle.big_endian.specs.Bytes.{big_endian, bytes_of}
 use Rattle.quadrature.specs.Sums.{summed}
 use Rattle.quadrature.specs.Figures.{lower_step, upper_step}
 use Rattle.quadrature.specs.Cuttings.{cut_sum}
@@ -12,17 +14,15 @@ use Rattle.roots.specs.Root.{floor_root, ceiling_root}
 use Rattle.requirement.specs.Required.{requirement, enclosing}
 use Rattle.provision.specs.Provided.{insulation, film, insulation_bounds, film_bounds, provided}
 use Rattle.verdict.specs.Verdict.{first_not_insufficient}
-use Rattle.refusals.specs.Response.{respond}
-use Rattle.big_endian.specs.Bytes.{big_endian, bytes_of}
+use Rattle.answer.specs.Answer.{encoded}
+use Rattle.limits.specs.Limits.{neighbours, loss_limit}
 use Rattle.sheet.specs.Sheet.{decoded}
 use Rattle.sheet.specs.Fields.{first_fault}
-use Rattle.limits.specs.Limits.{neighbours, loss_limit}
-use Rattle.answer.specs.Answer.{encoded}
 use Rattle.sheet.specs.Checks.{loss_check, surface_check}
 use Rattle.sheet.specs.Passes.{check_between}
 use Rattle.sheet.specs.Answer.{surface_bound, answer_of}
-use Rattle.worked.proofs.Examples.{root_low, root_high, low, high}
 use Rattle.book.specs.Refusals.{same_bytes}
+use Rattle.worked.proofs.Examples.{root_low, root_high, low, high}
 use Rattle.method.specs.Method.{Cylinder, Hotter, Between, FlatWall, BetweenRows, SecondPass, ColdLine, ColdWall, Entry, Method}
 
 the_cylinder : Cylinder

@@ -1,10 +1,10 @@
 -- A pass over the ladder, and what comes after the first, as the code answers them. 01, "Ladder and figures", and 02, N5.
 -- Assumes nothing.
 use Rattle.std.specs.Prelude.{cond, ltb, Option, Result, Ok, Err}
+use Rattle.fractions.specs.declared.Bounds.{Bounds}
 use Rattle.lengths.specs.Ladder.{rungs}
 use Rattle.refusals.specs.declared.Refusal.{Refusal}
 use Rattle.refusals.specs.declared.Refusal.TheVariants.{NoneSufficient, TooClose}
-use Rattle.fractions.specs.declared.Bounds.{Bounds}
 use Rattle.line.specs.declared.Line.{Line}
 use Rattle.requirement.specs.declared.Goal.{Goal}
 use Rattle.verdict.specs.declared.Verdict.{Verdict}
@@ -26,7 +26,7 @@ passed l q =
 abbrev pub pass_by : Sheet → Goal → Result Rung Refusal
 pass_by s goal = passed s.line (required_of s goal)
 
--- "If the loss check says over, the rung is found again by the loss method"; "If the check says too close, the sheet gets 18.": the pass that
--- decides by the check between the passes, or 18
+-- "If the loss check says over, the rung is found again"; "If the check says too close, the sheet gets 18.": the pass that decides by the
+-- check between the passes, or 18
 abbrev pub next : Option Verdict → Result Pass Refusal
 next check = cond (too_close check) (Err TooClose) (Ok (pass_after check))

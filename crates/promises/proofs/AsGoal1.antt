@@ -10,13 +10,13 @@ use lib.Dec.{eqb}
 use lib.ListN.{get_or}
 use Rattle.std.specs.Prelude.{Option, Some, None}
 use Rattle.lengths.specs.Ladder.{thickness_at}
-use Rattle.provision.specs.Provided.{provided}
 use Rattle.refusals.specs.Cases.{Case, NoneHolds}
 use Rattle.refusals.specs.Response.{refused, complete, respond}
 use Rattle.refusals.proofs.Response.{from_front, completed}
+use Rattle.big_endian.specs.Bytes.{big_endian}
+use Rattle.provision.specs.Provided.{provided}
 use Rattle.verdict.specs.declared.Verdict.{Verdict}
 use Rattle.verdict.specs.declared.Verdict.TheVariants.{Sufficient, Insufficient, Undecided}
-use Rattle.big_endian.specs.Bytes.{big_endian}
 use Rattle.answer.specs.Answer.{loss_code}
 use Rattle.sheet.specs.declared.fields.Sheet.{Sheet}
 use Rattle.sheet.specs.Sheet.{decoded, goal_of}

@@ -11,10 +11,10 @@ use Rattle.std.specs.Prelude.{Some, None}
 use Rattle.refusals.specs.Cases.{Case, case, NoneHolds}
 use Rattle.refusals.specs.Response.{complete, respond}
 use Rattle.refusals.proofs.Response.{later}
-use Rattle.verdict.specs.declared.Verdict.TheVariants.{Insufficient}
-use Rattle.limits.proofs.Size.{limit_size, some_size}
 use Rattle.big_endian.specs.Bytes.{big_endian, bytes_of}
+use Rattle.verdict.specs.declared.Verdict.TheVariants.{Insufficient}
 use Rattle.answer.specs.Answer.{encoded}
+use Rattle.limits.proofs.Size.{limit_size, some_size}
 use Rattle.sheet.specs.declared.fields.Sheet.{Sheet}
 use Rattle.sheet.specs.Sheet.{decoded}
 use Rattle.sheet.specs.Fields.{codes, line_fields, economy_fields, aim_fields, first_fault}

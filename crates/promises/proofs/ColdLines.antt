@@ -7,17 +7,17 @@ use Prim.Native.Nat.{ℕ, ◌≤◌, ◌<◌}
 use native.Mathlib.Omega.{arith}
 use lib.ListN.{length, get_or}
 use borrow.Author.Tests.{le-leb}
+use Rattle.std.specs.Prelude.{None}
 use Rattle.fractions.specs.declared.Bounds.{Bounds}
 use Rattle.temperatures.specs.declared.Temperature.{Temperature}
 use Rattle.temperatures.specs.Temperature.{decoded as signed}
-use Rattle.heat_flow.specs.declared.HeatFlow.TheVariants.{Inward}
 use Rattle.big_endian.specs.Bytes.{big_endian}
+use Rattle.heat_flow.specs.declared.HeatFlow.TheVariants.{Inward}
 use Rattle.verdict.specs.declared.Verdict.TheVariants.{Sufficient}
+use Rattle.answer.specs.Answer.{loss_code, check_code}
 use Rattle.limits.specs.Limits.{surface_limit}
 use Rattle.limits.proofs.Rows.{none_below}
 use Rattle.limits.proofs.SurfaceLimit.{limit_above}
-use Rattle.std.specs.Prelude.{None}
-use Rattle.answer.specs.Answer.{loss_code, check_code}
 use Rattle.sheet.specs.declared.fields.Sheet.{Sheet}
 use Rattle.sheet.specs.Sheet.{decoded, goal_of}
 use Rattle.sheet.specs.Search.{requirement_of}

@@ -12,6 +12,9 @@ use borrow.Author.Tests.{eqb-true, ne_eqb, not-false}
 use Rattle.std.specs.Prelude.{Option, Some}
 use Rattle.fractions.specs.declared.Bounds.{Bounds}
 use Rattle.lengths.specs.Ladder.{thickness_at}
+use Rattle.refusals.specs.Cases.{NoneHolds}
+use Rattle.refusals.specs.Response.{complete}
+use Rattle.big_endian.specs.Bytes.{big_endian}
 use Rattle.requirement.specs.declared.Goal.TheVariants.{Loss}
 use Rattle.requirement.proofs.Losses.{loss_requires_less}
 use Rattle.provision.specs.Provided.{provided}
@@ -19,13 +22,10 @@ use Rattle.verdict.specs.declared.Verdict.{Verdict}
 use Rattle.verdict.specs.declared.Verdict.TheVariants.{Sufficient, Insufficient}
 use Rattle.verdict.specs.Verdict.{judged}
 use Rattle.verdict.proofs.Growth.{Below, less_insufficient, sufficient_for_less, insufficient_below}
-use Rattle.big_endian.specs.Bytes.{big_endian}
-use Rattle.refusals.specs.Cases.{NoneHolds}
-use Rattle.refusals.specs.Response.{complete}
-use Rattle.limits.specs.Limits.{loss_limit}
 use Rattle.answer.specs.declared.Pass.{Pass}
 use Rattle.answer.specs.declared.Pass.TheVariants.{First, Second}
 use Rattle.answer.specs.Answer.{pass_code, loss_code}
+use Rattle.limits.specs.Limits.{loss_limit}
 use Rattle.sheet.specs.declared.fields.Sheet.{Sheet}
 use Rattle.sheet.specs.Sheet.{decoded, difference, goal_of}
 use Rattle.sheet.specs.Search.{required_of}

@@ -2,9 +2,9 @@
 -- Assumes nothing.
 use Rattle.std.specs.Prelude.{ℕ, ◌≤◌, ◌≡◌, ◌⊎◌, false, List, length, get_or}
 use Rattle.temperatures.specs.Temperature.{decoded as signed}
-use Rattle.heat_flow.specs.declared.HeatFlow.TheVariants.{Outward, Inward}
-use Rattle.big_endian.specs.Bytes.{big_endian}
 use Rattle.refusals.specs.Response.{complete}
+use Rattle.big_endian.specs.Bytes.{big_endian}
+use Rattle.heat_flow.specs.declared.HeatFlow.TheVariants.{Outward, Inward}
 use Rattle.sheet.specs.declared.fields.GoalCode.TheVariants.{ForEconomy}
 use Rattle.sheet.specs.declared.fields.Sheet.{Sheet}
 use Rattle.sheet.specs.Sheet.{decoded, goal_of}

@@ -3,11 +3,11 @@
 -- Assumes nothing.
 use Rattle.std.specs.Prelude.{ℕ, ◌+◌, ◌*◌, ◌≤◌, ◌<◌, ◌≡◌, false, ◌⊎◌, List, ◌∷◌, ◌++◌, get_or, replicate, take, drop}
 use Rattle.lengths.specs.Ladder.{thickness_at}
-use Rattle.requirement.specs.declared.Goal.TheVariants.{Loss}
-use Rattle.big_endian.specs.Bytes.{big_endian, bytes_of}
 use Rattle.refusals.specs.Response.{Response, refused, complete}
-use Rattle.limits.specs.Limits.{loss_limit}
+use Rattle.big_endian.specs.Bytes.{big_endian, bytes_of}
+use Rattle.requirement.specs.declared.Goal.TheVariants.{Loss}
 use Rattle.answer.specs.declared.Pass.TheVariants.{First}
+use Rattle.limits.specs.Limits.{loss_limit}
 use Rattle.sheet.specs.declared.fields.Sheet.{Sheet}
 use Rattle.sheet.specs.Sheet.{decoded, goal_of}
 use Rattle.sheet.specs.Passes.{second_aim, deciding_pass, deciding_goal}
@@ -35,9 +35,9 @@ pub record AsGoal1 (rest : List ℕ) : Type 0 where
   pub within : (bytes : List ℕ) → response_to (1 ∷ rest) ≡ complete bytes → (get_or bytes 4 0 ≡ 0) ⊎ (get_or bytes 4 0 ≡ 3) → response_to (6 ∷ rest) ≡ complete bytes
   -- "If the check says too close, the sheet gets 18."
   pub close : (bytes : List ℕ) → response_to (1 ∷ rest) ≡ complete bytes → get_or bytes 4 0 ≡ 2 → response_to (6 ∷ rest) ≡ refused 18
-  -- "If the loss check says over, the rung is found again by the loss method with 90 per cent of the limit in tenths, rounded down. Byte 0 of
-  -- the answer is then 1 in place of 0." "The second pass can meet 17 and 18 as the first can. Checks and bound are then those of the second
-  -- rung.": all is as for the loss sheet with that aim, but for byte 0
+  -- "If the loss check says over, the rung is found again by the loss method with 90 per cent of the limit in tenths, rounded down. Byte 0
+  -- of the answer is then 1 in place of 0." "The second pass can meet 17 and 18 as the first can. Checks and bound are then those of the
+  -- second rung.": all is as for the loss sheet with that aim, but for byte 0
   pub over :
       (bytes : List ℕ) → response_to (1 ∷ rest) ≡ complete bytes → get_or bytes 4 0 ≡ 1 →
       response_to (6 ∷ rest) ≡ with_byte_0_as_1 (response_to (loss_sheet rest (second_aim (decoded (6 ∷ rest)))))

@@ -7,12 +7,12 @@ use native.Mathlib.Omega.{arith}
 use borrow.Author.Tests.{eq-eqb}
 use Rattle.std.specs.Prelude.{Option, Some, None}
 use Rattle.fractions.specs.declared.Bounds.{Bounds}
+use Rattle.requirement.specs.Ranges.{GoalInRange}
 use Rattle.verdict.specs.declared.Verdict.{Verdict}
 use Rattle.verdict.specs.declared.Verdict.TheVariants.{Sufficient, Insufficient, Undecided}
-use Rattle.requirement.specs.Ranges.{GoalInRange}
+use Rattle.answer.specs.declared.Pass.TheVariants.{Second}
 use Rattle.limits.specs.Limits.{loss_limit}
 use Rattle.limits.proofs.Size.{some_size, limit_size}
-use Rattle.answer.specs.declared.Pass.TheVariants.{Second}
 use Rattle.sheet.specs.declared.fields.Sheet.{Sheet}
 use Rattle.sheet.specs.Sheet.{goal_of}
 use Rattle.sheet.specs.Checks.{loss_check}

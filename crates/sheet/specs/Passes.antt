@@ -10,9 +10,9 @@ use Rattle.provision.specs.Provided.{provided}
 use Rattle.verdict.specs.declared.Verdict.{Verdict}
 use Rattle.verdict.specs.declared.Verdict.TheVariants.{Sufficient, Insufficient, Undecided}
 use Rattle.verdict.specs.Verdict.{is_sufficient}
-use Rattle.limits.specs.Limits.{loss_limit}
 use Rattle.answer.specs.declared.Pass.{Pass}
 use Rattle.answer.specs.declared.Pass.TheVariants.{First, Second}
+use Rattle.limits.specs.Limits.{loss_limit}
 use Rattle.sheet.specs.declared.fields.Sheet.{Sheet}
 use Rattle.sheet.specs.Sheet.{goal_of}
 use Rattle.sheet.specs.Search.{verdicts_by, first_by}

@@ -2,16 +2,16 @@
 -- Assumes nothing.
 use mathlib.Core.Path.{refl}
 use native.Mathlib.Omega.{arith}
+use Rattle.refusals.specs.Response.{respond}
 use Rattle.overlay.specs.Overlay.{overlay}
+use Rattle.big_endian.specs.Bytes.{big_endian, bytes_of}
 use Rattle.quadrature.specs.Figures.{lower_step, upper_step}
 use Rattle.roots.specs.Least.{least}
 use Rattle.requirement.specs.Required.{requirement, enclosing}
 use Rattle.provision.specs.Provided.{insulation, film, insulation_bounds, film_bounds, provided}
 use Rattle.verdict.specs.Verdict.{first_not_insufficient}
-use Rattle.big_endian.specs.Bytes.{big_endian, bytes_of}
-use Rattle.limits.specs.Limits.{neighbours, loss_limit}
 use Rattle.answer.specs.Answer.{encoded}
-use Rattle.refusals.specs.Response.{respond}
+use Rattle.limits.specs.Limits.{neighbours, loss_limit}
 use Rattle.sheet.specs.Sheet.{decoded}
 use Rattle.sheet.specs.Fields.{first_fault}
 use Rattle.sheet.specs.Checks.{loss_check, surface_check}

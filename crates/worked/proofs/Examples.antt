@@ -1,10 +1,14 @@
 -- The examples, by computation; the economy root by its square.
 -- Assumes nothing.
 use mathlib.Core.Path.{◌≡◌, refl, sym}
+use mathlib.Core.List.{List}
 use Prim.Native.Nat.{ℕ, ◌+◌, ◌*◌, ◌<◌}
 use native.Mathlib.Nat.{lt_of_le_of_lt}
 use native.Mathlib.Omega.{arith}
+use Rattle.std.specs.Prelude.{Option, Some, None}
 use Rattle.fractions.specs.Fraction.{Fraction, ◌over◌}
+use Rattle.refusals.specs.Response.{respond}
+use Rattle.big_endian.specs.Bytes.{big_endian, bytes_of}
 use Rattle.quadrature.specs.Sums.{summed}
 use Rattle.quadrature.specs.Figures.{lower_step, upper_step}
 use Rattle.roots.specs.Least.{least}
@@ -14,14 +18,10 @@ use Rattle.roots.proofs.Roots.{floor_root_is, ceiling_root_is}
 use Rattle.requirement.specs.Required.{requirement, enclosing}
 use Rattle.provision.specs.Provided.{insulation, film, insulation_bounds, film_bounds, provided}
 use Rattle.verdict.specs.Verdict.{first_not_insufficient}
-use Rattle.big_endian.specs.Bytes.{big_endian, bytes_of}
-use Rattle.limits.specs.Limits.{neighbours, loss_limit}
-use Rattle.answer.specs.Answer.{encoded}
-use mathlib.Core.List.{List}
-use Rattle.std.specs.Prelude.{Option, Some, None}
 use Rattle.verdict.specs.declared.Verdict.{Verdict}
 use Rattle.verdict.specs.declared.Verdict.TheVariants.{Sufficient, Insufficient, Undecided}
-use Rattle.refusals.specs.Response.{respond}
+use Rattle.answer.specs.Answer.{encoded}
+use Rattle.limits.specs.Limits.{neighbours, loss_limit}
 use Rattle.sheet.specs.Sheet.{decoded}
 use Rattle.sheet.specs.Fields.{first_fault}
 use Rattle.sheet.specs.Checks.{loss_check, surface_check}

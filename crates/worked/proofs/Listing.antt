@@ -1,21 +1,21 @@
 -- The listing: of the sheets F and G, and of no input, by computation.
 -- Assumes nothing.
 use mathlib.Core.Path.{refl}
+use Rattle.refusals.specs.Response.{respond}
+use Rattle.big_endian.specs.Bytes.{big_endian, bytes_of}
+use Rattle.text.specs.Text.{decimal_up_to, decimal, concatenated}
 use Rattle.quadrature.specs.Figures.{lower_step, upper_step}
 use Rattle.roots.specs.Least.{least}
 use Rattle.requirement.specs.Required.{requirement, enclosing}
 use Rattle.provision.specs.Provided.{insulation, film, insulation_bounds, film_bounds, provided}
 use Rattle.verdict.specs.Verdict.{first_not_insufficient}
-use Rattle.big_endian.specs.Bytes.{big_endian, bytes_of}
-use Rattle.limits.specs.Limits.{neighbours, loss_limit}
 use Rattle.answer.specs.Answer.{encoded}
-use Rattle.refusals.specs.Response.{respond}
+use Rattle.limits.specs.Limits.{neighbours, loss_limit}
 use Rattle.sheet.specs.Sheet.{decoded}
 use Rattle.sheet.specs.Fields.{first_fault}
 use Rattle.sheet.specs.Checks.{loss_check, surface_check}
 use Rattle.sheet.specs.Passes.{check_between}
 use Rattle.sheet.specs.Answer.{surface_bound, answer_of}
-use Rattle.text.specs.Text.{decimal_up_to, decimal, concatenated}
 use Rattle.listing_text.specs.Line.{line_of}
 use Rattle.worked.specs.Listing.{WorkedListing}
 use Rattle.worked.proofs.Cut.{listing_cut}

@@ -8,18 +8,18 @@ use native.Mathlib.Omega.{arith}
 use lib.Dec.{ltb}
 use lib.ListN.{take}
 use borrow.Author.Tests.{le-ltb}
+use Rattle.refusals.specs.Cases.{NoneHolds}
+use Rattle.refusals.specs.Response.{refused, respond}
+use Rattle.refusals.proofs.Response.{first_at}
+use Rattle.big_endian.specs.Bytes.{big_endian, bytes_of}
 use Rattle.quadrature.specs.Figures.{lower_step, upper_step}
 use Rattle.quadrature.proofs.Sums.{log_self}
 use Rattle.roots.specs.Least.{least}
 use Rattle.requirement.specs.Required.{requirement, enclosing}
 use Rattle.provision.specs.Provided.{insulation, film, insulation_bounds, film_bounds, provided}
 use Rattle.verdict.specs.Verdict.{first_not_insufficient}
-use Rattle.big_endian.specs.Bytes.{big_endian, bytes_of}
-use Rattle.limits.specs.Limits.{neighbours, loss_limit}
 use Rattle.answer.specs.Answer.{encoded}
-use Rattle.refusals.specs.Cases.{NoneHolds}
-use Rattle.refusals.specs.Response.{refused, respond}
-use Rattle.refusals.proofs.Response.{first_at}
+use Rattle.limits.specs.Limits.{neighbours, loss_limit}
 use Rattle.sheet.specs.Sheet.{decoded, surface_aim}
 use Rattle.sheet.specs.Fields.{first_fault}
 use Rattle.sheet.specs.Checks.{loss_check, surface_check}

@@ -1,6 +1,6 @@
--- Answered sheets, for each goal and with each outcome of the checks, one with an unknown service, and cold and limited sheets that are refused. The
--- hot economy sheets are 01's ("D 270 gives 20, D 320 gives 30"); the other answers are computed by tools/sheet.py, which shares nothing
--- with the crates.
+-- Answered sheets, for each goal and with each outcome of the checks, one with an unknown service, and sheets of goals 4 to 6 that are
+-- refused. Two economy sheets are 01's ("D 270 gives 20, D 320 gives 30"); the other answers are computed by tools/sheet.py, which shares
+-- nothing with the crates.
 -- Assumes nothing.
 use Rattle.std.specs.Prelude.{ℕ, ◌≡◌, List, [], ◌∷◌, ◌++◌}
 use Rattle.refusals.specs.Response.{complete, refused}

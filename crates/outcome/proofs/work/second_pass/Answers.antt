@@ -1,10 +1,10 @@
 -- The loss check is over, so the second pass decides, and a limit is printed.
-use Rattle.std.proofs.Common.{◌≡◌, sym, ◌∙◌}
 use borrow.Author.Tests.{ne_eqb}
+use Rattle.std.proofs.Common.{◌≡◌, sym, ◌∙◌}
 use Rattle.std.proofs.lemmas.Result.{err_from_is_err_and}
+use Rattle.answer.specs.declared.Pass.TheVariants.{Second}
 use Rattle.sheet.specs.Passes.{goal_in}
 use Rattle.sheet.proofs.Passes.{between, Printed, printed_for, second_aim_some}
-use Rattle.answer.specs.declared.Pass.TheVariants.{Second}
 use Rattle.outcome.specs.Pass.{pass_by}
 use Rattle.outcome.proofs.Passes.{refused_by, given}
 use Rattle.outcome.proofs.work.second_pass.Goals.{Start, After-pass_apart}
