@@ -115,7 +115,7 @@ fn pass(prepared: Provision, need: Bounds) -> Result<Rung, Refusal>
     Ok(rung)
 }
 
-// The same apart from the code of the first pass, which every sheet takes and which is inlined.
+// A pass that is not inlined: the second, which few sheets take.
 #[inline(never)]
 fn pass_apart(prepared: Provision, need: Bounds) -> Result<Rung, Refusal>
     ensures { result ≡ passed prepared.line.line need }
