@@ -22,7 +22,7 @@ passed l q =
     let r = first_not_insufficient (verdict_of l q) in
     cond (ltb r rungs) (cond (is_undecided (verdict_of l q r)) (Err TooClose) (Ok (rung l r))) (Err NoneSufficient)
 
--- of a sheet that searches by a goal
+-- a pass of a sheet by a goal
 abbrev pub pass_by : Sheet → Goal → Result Rung Refusal
 pass_by s goal = passed s.line (required_of s goal)
 

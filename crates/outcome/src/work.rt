@@ -115,7 +115,7 @@ fn pass(prepared: Provision, need: Bounds) -> Result<Rung, Refusal>
     Ok(rung)
 }
 
-// A pass that is not inlined: the second, which few sheets take.
+// The same as a function of its own, for the second pass. The first, which every admitted sheet takes, has it inlined.
 #[inline(never)]
 fn pass_apart(prepared: Provision, need: Bounds) -> Result<Rung, Refusal>
     ensures { result ≡ passed prepared.line.line need }

@@ -1,5 +1,5 @@
 -- What is promised of goal 6, beside the demands and `SurfaceBound`, which speak of every goal. 02, N5: "Economy that respects the loss
--- limit." An answer has eight bytes (`AnswerTo.size`), so no byte of one that is read here is missing.
+-- limit." An answer has eight bytes (`AnswerTo.size`), so every byte of it that is read here is there.
 -- Assumes nothing.
 use Rattle.std.specs.Prelude.{ℕ, ◌+◌, ◌*◌, ◌≤◌, ◌<◌, ◌≡◌, false, ◌⊎◌, List, ◌∷◌, ◌++◌, get_or, replicate, take, drop}
 use Rattle.lengths.specs.Ladder.{thickness_at}
@@ -19,7 +19,7 @@ pub record AnswerWith (n : ℕ) (sheet bytes : List ℕ) : Type 0 where
   pub answered : response_to sheet ≡ complete bytes
   pub start : get_or bytes 0 0 ≡ n
 
--- the loss sheet with an aim for the same line: goal 2, with zeros at offsets 14–21; `rest` is a sheet behind its first byte
+-- the loss sheet with an aim for the same line: goal 2, with zeros at offsets 14–21; `rest` is a sheet without its first byte
 abbrev pub loss_sheet : List ℕ → ℕ → List ℕ
 loss_sheet rest aim = 2 ∷ (take 13 rest ++ replicate 8 0 ++ bytes_of 2 aim)
 
@@ -45,7 +45,7 @@ pub record AsGoal1 (rest : List ℕ) : Type 0 where
 pub record WithinLimit : Type 0 where
   -- "90 per cent of the limit in tenths, rounded down"
   pub aim : (s : Sheet) → let limit = loss_limit s.service s.temperature in (100 * second_aim s ≤ 90 * limit) × (90 * limit < 100 * (second_aim s + 1))
-  -- a goal that does not respect the limit, as 1 to 5, has one pass, by the sheet's own goal
+  -- a goal that does not respect the limit, such as goals 1 to 5, has one pass, by the sheet's own goal
   pub one_pass : (s : Sheet) → s.respects_limit ≡ false → (deciding_pass s ≡ First) × (deciding_goal s ≡ goal_of s)
   pub as_goal_1 : (rest : List ℕ) → AsGoal1 rest
   -- byte 0 is 0 or 1, and 1 for goal 6 only

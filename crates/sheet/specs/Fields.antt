@@ -41,7 +41,8 @@ abbrev pub used_if : Bool → ℕ → ℕ → ℕ → ℕ → Field
 used_if true o x l m = ranged o x l m
 used_if false o x l m = unused o x
 
--- f, τ, P and S: "Offsets 14–21 are used for goal 1 only and are zero otherwise"; goal 5 uses them "as goal 1 does" (02, N4), and so does goal 6
+-- f, τ, P and S: "Offsets 14–21 are used for goal 1 only and are zero otherwise"; goal 5 uses them "as goal 1 does" (02, N4), and so does
+-- goal 6
 abbrev pub economy_fields : Bool → Sheet → List Field
 economy_fields used s =
     used_if used 14 s.economy.heat 1 65_535 ∷

@@ -30,8 +30,8 @@ first_check s = loss_check s (provided s.line (thickness_at (first_by s (goal_of
 unfoldable pub check_between : Sheet → Option Verdict
 check_between s = cond (s.respects_limit && succeeds s (goal_of s)) (first_check s) None
 
--- "If the loss check says over, the rung is found again"; otherwise the first pass decides. After a check that is too close none does: the
--- sheet gets 18.
+-- "If the loss check says over, the rung is found again"; otherwise the first pass decides. After a check that is too close the sheet gets
+-- 18; First stands there only so that there is a value.
 abbrev pub pass_after : Option Verdict → Pass
 pass_after (Some Sufficient) = First
 pass_after (Some Insufficient) = Second

@@ -19,7 +19,8 @@ pub enum GoalCode {
 
 impl GoalCode {
     // Not a `TryFrom`: every code has a reading, since refusal 12 is of the number as it is written. Nor a `From`, since this and `flow_of`
-    // are two readings of one number. No `match`: jumps are made of it, and a refused sheet takes a quarter longer.
+    // are two readings of one number. Comparisons and no `match`: of a `match` the compiler makes jumps, and a refused sheet of mixed goals
+    // takes a quarter longer.
     pub(crate) fn of(code: u64) -> GoalCode
         ensures { result ≡ goal_code code }
     {
@@ -58,7 +59,7 @@ fn flow_of(code: u64) -> HeatFlow
     }
 }
 
-// Does the goal of a code respect the loss limit? That of 6 does.
+// Does the goal of a code respect the loss limit? Goal 6 does.
 fn respects_limit(code: u64) -> bool
     ensures { result ≡ respects_limit code }
 {

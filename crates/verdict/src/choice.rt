@@ -17,7 +17,7 @@ pub struct Rung {
 }
 
 // Searches the ladder for the first rung that does not miss the need `required`; where all miss, there is none. What is provided grows with
-// the rung, so each trial rules out the rungs on one side of it. Inlined in each pass of a sheet.
+// the rung, so each trial rules out the rungs on one side of it. It is inlined in each pass.
 #[inline(always)]
 pub fn search(prepared: Provision, required: Bounds) -> Option<Rung>
     ensures { result ≡ searched prepared.line.line required }

@@ -1,5 +1,5 @@
--- Answered sheets, for each goal and with each outcome of the checks, one with an unknown service, and sheets of goals 4 to 6 that are
--- refused. Two economy sheets are 01's ("D 270 gives 20, D 320 gives 30"); the other answers are computed by tools/sheet.py, which shares
+-- Answered sheets, for each goal and with each outcome of the checks, one with an unknown service, and sheets of goals 4 to 6, and
+-- of an unknown goal, that are refused. Two economy sheets are 01's ("D 270 gives 20, D 320 gives 30"); the other answers are computed by tools/sheet.py, which shares
 -- nothing with the crates.
 -- Assumes nothing.
 use Rattle.std.specs.Prelude.{ℕ, ◌≡◌, List, [], ◌∷◌, ◌++◌}
@@ -79,7 +79,7 @@ limited_of service D t ta L α f τ P S =
 abbrev pub bare_wall : (service t ta α : ℕ) → List ℕ
 bare_wall service t ta α = limited_of service 20_000 t ta 1_000 α 1 2_880 65_535 10_000
 
--- a wall that no rung is enough for at 104.4 W/m², and a tube; both are bare, or nearly so, after the first pass
+-- a wall for which no rung is enough at 104.4 W/m², and a tube; both are bare after the first pass
 abbrev pub hot_wall : List ℕ
 hot_wall = limited_of 1 20_000 1_500 65_365 2_000 1_000 1 2_880 65_535 10_000
 
