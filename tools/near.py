@@ -257,10 +257,15 @@ def at_loss(x, k, loss, by, wanted):
 
 def losing(r, goal, flat, k, by, wanted, **fixed):
     """A hot sheet of k mm that loses about so many tenths of W/m² over the limit; wanted: verdicts at the limit and beside it."""
+    return at_limit(r, goal, flat, k, lambda x, limit: at_loss(x, k, limit, by, wanted), **fixed)
+
+
+def at_limit(r, goal, flat, k, near, **fixed):
+    """A hot sheet of k mm, of those that are near a drawn one and its loss limit."""
     while True:
         x = fields(r, goal, flat, **fixed)
         limit = loss_limit(x["service"], x["t"])
-        for y in at_loss(x, k, limit, by, wanted) if limit else []:
+        for y in near(x, limit) if limit else []:
             z = between(r, y, k)
             if z:
                 return z
@@ -348,13 +353,7 @@ def loss_edge(x, k, loss, side, by):
 
 def check_edge(r, flat, k, side, by, **fixed):
     """A sheet of goal 6 whose first pass gives k mm, at an edge of what is too close to the limit."""
-    while True:
-        x = fields(r, LIMITED, flat, **fixed)
-        limit = loss_limit(x["service"], x["t"])
-        for y in loss_edge(x, k, limit, side, by) if limit else []:
-            z = between(r, y, k)
-            if z:
-                return z
+    return at_limit(r, LIMITED, flat, k, lambda x, limit: loss_edge(x, k, limit, side, by), **fixed)
 
 
 def second_edge(r, flat, first, k, side, by, **fixed):

@@ -49,13 +49,12 @@ check_of s p some = rw (ne_eqb _ 0 some)
 stricter : (s : Sheet) → Printed s → Below (required_of s (Loss (loss_limit s.service s.temperature))) (required_of s (Loss (second_aim s)))
 stricter s some = loss_requires_less s.line (difference s) (second_aim_some s some) (omega arith)
 
-is_second : (p : Pass) → pass_code p ≡ 1 → p ≡ Second
-is_second First e = absurd (omega (arith, e))
-is_second Second e = refl
-
-is_first : (p : Pass) → pass_code p ≡ 0 → p ≡ First
-is_first First e = refl
-is_first Second e = absurd (omega (arith, e))
+-- a pass is told by its code
+same_pass : (p q : Pass) → pass_code p ≡ pass_code q → p ≡ q
+same_pass First First e = refl
+same_pass First Second e = absurd (omega (arith, e))
+same_pass Second First e = absurd (omega (arith, e))
+same_pass Second Second e = refl
 
 -- an answered sheet
 module _ (sheet bytes : List ℕ) (h : response_to sheet ≡ complete bytes) where
@@ -85,7 +84,7 @@ module _ (sheet bytes : List ℕ) (h : AnswerWith 1 sheet bytes) where
   known = got sheet bytes h.answered
 
   second : deciding_pass t ≡ Second
-  second = is_second _ (sym known.start ∙ h.start)
+  second = same_pass _ Second (sym known.start ∙ h.start)
 
   says_over : Checked t Insufficient
   says_over = rw second at known.pass
@@ -127,7 +126,7 @@ within_limit =
       one_pass = λ s e. (ap pass_after (no_check s e), ap (λ (c : Option Verdict). goal_in s (pass_after c)) (no_check s e));
       as_goal_1 = λ rest. record { refused_alike = refused_alike rest; within = within rest; close = close rest; over = checked_over rest };
       goal_6_only = goal_6_only;
-      first_equation = λ sheet bytes h. ap (goal_in (decoded sheet)) (is_first _ (sym (got sheet bytes h.answered).start ∙ h.start));
+      first_equation = λ sheet bytes h. ap (goal_in (decoded sheet)) (same_pass _ First (sym (got sheet bytes h.answered).start ∙ h.start));
       second_equation = λ sheet bytes h. ap (goal_in (decoded sheet)) (second sheet bytes h);
       check_within = check_within;
       thicker = thicker;
