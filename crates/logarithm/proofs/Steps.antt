@@ -27,6 +27,12 @@ split f {c} {d} {e} le le' =
     let count : e - c ≡ (d - c) + (e - d) = omega arith in
     rw (count, total_join f c (d - c) (e - d), add-sub_of_le le)
 
+-- n steps from d on, none of which is above b
+pub total_within : (f : ℕ → ℕ) (b d n : ℕ) → ((i : ℕ) → d ≤ i → f i ≤ b) → total f d n ≤ n * b
+unfolding summed
+total_within f b d zero each = omega arith
+total_within f b d (suc n) each = omega (arith, total_within f b d n each, each (d + n) (omega arith))
+
 -- No step from 10.0 mm on is above 10¹⁰, so the logarithm to e is at most e × 10¹⁰.
 abbrev pub Small : (ℕ → ℕ) → Type 0
 Small f = (i : ℕ) → 100 ≤ i → f i ≤ 10 ^ 10
@@ -41,13 +47,9 @@ upper_small i le =
     let d = 2 * i * (i + 1) in
     div-le_of_le-mul d {m = tera * (2 * i + 1) + (d - 1)} {n = 10 ^ 10} (omega (arith, mul-le-mul_left i le))
 
-small_total : (f : ℕ → ℕ) → Small f → (d n : ℕ) → 100 ≤ d → total f d n ≤ n * 10 ^ 10
-unfolding summed
-small_total f s d zero le = omega arith
-small_total f s d (suc n) le = omega (arith, small_total f s d n le, s (d + n) (omega arith))
-
 pub log_small : (f : ℕ → ℕ) → Small f → {d : ℕ} (e : ℕ) → 100 ≤ d → total f d (e - d) ≤ e * 10 ^ 10
-log_small f s {d} e le = le_trans (small_total f s d (e - d) le) (mul-le-mul_right {m = e - d} {n = e} (10 ^ 10) (omega arith))
+log_small f s {d} e le =
+    le_trans (total_within f (10 ^ 10) d (e - d) (λ i from. s i (omega arith))) (mul-le-mul_right {m = e - d} {n = e} (10 ^ 10) (omega arith))
 
 -- The logarithm s from d to i and the step x from i are the logarithm to i + 1, which fits.
 pub record Next (d i : ℕ) (s x : Bounds) : Type 0 where

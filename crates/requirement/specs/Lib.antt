@@ -1,3 +1,4 @@
 pub mod Required
 pub mod Exact
+pub mod Criterion
 pub mod Ranges

@@ -13,7 +13,8 @@ use Rattle.line.specs.declared.Line.{Line}
 use Rattle.provision.specs.Provided.{provided}
 use Rattle.provision.proofs.Growth.{provided_more}
 use Rattle.verdict.specs.declared.Verdict.TheVariants.{Sufficient, Insufficient, Undecided}
-use Rattle.verdict.specs.Verdict.{judged, verdict_of}
+use Rattle.verdict.specs.Verdict.{judged}
+use Rattle.verdict.specs.Choice.{verdict_for}
 
 -- both bounds of p are at or below those of q
 abbrev pub Below : Bounds → Bounds → Type 0
@@ -37,7 +38,7 @@ sufficient_for_less p q q' less = go (leb q'.upper p.lower) (ltb p.upper q'.lowe
     go false true e f is = cc
     go false false e f is = cc
 
-pub insufficient_below : (l : Line) (q : Bounds) {i j : ℕ} → i ≤ j → verdict_of l q j ≡ Insufficient → verdict_of l q i ≡ Insufficient
+pub insufficient_below : (l : Line) (q : Bounds) {i j : ℕ} → i ≤ j → verdict_for l q j ≡ Insufficient → verdict_for l q i ≡ Insufficient
 insufficient_below l q {i} {j} le =
     let more = provided_more l {j = thickness_at i} {k = thickness_at j} (omega arith) in
     less_insufficient (provided l (thickness_at i)) (provided l (thickness_at j)) q q more (le_refl _, le_refl _)

@@ -4,16 +4,21 @@ use Rattle.std.specs.Prelude.{ℕ, cond, ltb, Option, Some, None}
 use Rattle.fractions.specs.declared.Bounds.{Bounds}
 use Rattle.lengths.specs.Ladder.{rungs, thickness_at}
 use Rattle.line.specs.declared.Line.{Line}
+use Rattle.verdict.specs.declared.Verdict.{Verdict}
 use Rattle.verdict.specs.declared.choice.Rung.{Rung}
 use Rattle.provision.specs.Provided.{provided}
-use Rattle.verdict.specs.Verdict.{verdict_of, first_not_insufficient}
+use Rattle.verdict.specs.Verdict.{judged, first_not_insufficient}
 
--- the rung with index r of the line l, with what it provides
-abbrev pub rung : Line → ℕ → Rung
-rung l r = record { index = r; provided = provided l (thickness_at r) }
+-- the verdict on the rung with index r of the line l, where whole numbers q enclose what is required at every thickness
+abbrev pub verdict_for : Line → Bounds → ℕ → Verdict
+verdict_for l q r = judged (provided l (thickness_at r)) q
 
--- "The first rung that doesn't miss", q being required of the line l; none where all miss
-abbrev pub searched : Line → Bounds → Option Rung
-searched l q =
-    let r = first_not_insufficient (verdict_of l q) in
-    cond (ltb r rungs) (Some (rung l r)) None
+-- the rung with index r of the line l, with what it provides and its verdict
+abbrev pub rung : Line → (ℕ → Verdict) → ℕ → Rung
+rung l v r = record { index = r; provided = provided l (thickness_at r); verdict = v r }
+
+-- "The first rung that doesn't miss"; none where all miss
+abbrev pub searched : Line → (ℕ → Verdict) → Option Rung
+searched l v =
+    let r = first_not_insufficient v in
+    cond (ltb r rungs) (Some (rung l v r)) None

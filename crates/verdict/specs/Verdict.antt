@@ -1,22 +1,39 @@
--- The verdict on a thickness. 01, "Ladder and figures".
+-- The verdict on a thickness. 01, "Ladder and figures", and 02, N6.
 -- Assumes nothing.
-use Rattle.std.specs.Prelude.{ℕ, Bool, true, false, cond, leb, ltb}
+use Rattle.std.specs.Prelude.{ℕ, ◌*◌, Bool, true, false, cond, leb, ltb}
 use Rattle.fractions.specs.declared.Bounds.{Bounds}
+use Rattle.fractions.specs.Fraction.{Fraction}
+use Rattle.lengths.specs.declared.units.Thickness.{Thickness}
 use Rattle.lengths.specs.Ladder.{rungs, thickness_at}
 use Rattle.roots.specs.Least.{least}
 use Rattle.line.specs.declared.Line.{Line}
 use Rattle.verdict.specs.declared.Verdict.{Verdict}
 use Rattle.verdict.specs.declared.Verdict.TheVariants.{Sufficient, Insufficient, Undecided}
 use Rattle.provision.specs.Provided.{provided}
+use Rattle.requirement.specs.Required.{enclosing}
+use Rattle.requirement.specs.Criterion.{Criterion}
+use Rattle.requirement.specs.Criterion.Criterion.{enclosed, squared, unattainable}
 
 -- "A rung meets if under-have is at or above high need. It misses if over-have is below low need. Otherwise it is open.": p is what the rung
 -- provides and q what is required
 abbrev pub judged : Bounds → Bounds → Verdict
 judged p q = cond (leb q.upper p.lower) Sufficient (cond (ltb p.upper q.lower) Insufficient Undecided)
 
--- the verdict on the rung with index r, where q is required of the line l
-abbrev pub verdict_of : Line → Bounds → ℕ → Verdict
-verdict_of l q r = judged (provided l (thickness_at r)) q
+-- "A rung meets when the square of under-have is at or above" what is required, q. "It misses when the square of over-have is below it."
+-- (02, N6)
+abbrev pub judged_by_squares : Bounds → Fraction → Verdict
+judged_by_squares p q =
+    cond (leb q.num (p.lower * p.lower * q.den)) Sufficient (cond (ltb (p.upper * p.upper * q.den) q.num) Insufficient Undecided)
+
+-- the verdict by a criterion: "A rung where the difference is not positive misses" (02, N6)
+abbrev pub judged_by : Bounds → Criterion → Verdict
+judged_by p (enclosed required) = judged p (enclosing required)
+judged_by p (squared required) = judged_by_squares p required
+judged_by p unattainable = Insufficient
+
+-- the verdict on the rung with index r of the line l, where each thickness has a criterion
+abbrev pub verdict_of : Line → (Thickness → Criterion) → ℕ → Verdict
+verdict_of l criterion r = let k = thickness_at r in judged_by (provided l k) (criterion k)
 
 -- does a rung not miss?
 abbrev pub not_insufficient : Verdict → Bool

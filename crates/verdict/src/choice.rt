@@ -1,26 +1,27 @@
 // The search of the ladder.
 ghost use Rattle.std.specs.Prelude.{◌≡◌, ◌≤◌, ◌<◌};
 ghost use Rattle.lengths.specs.Ladder.{rungs};
-ghost use Rattle.verdict.specs.Choice.{searched};
+ghost use Rattle.verdict.specs.Choice.{verdict_for, searched};
 
-use crate::judge;
+use crate::{Verdict, judge};
 use estimate::likely_rung;
 use fractions::Bounds;
 use lengths::Ladder;
 use provision::Provision;
 
-// A rung of the ladder: its index and its have.
+// A rung of the ladder: its index, its have and the verdict on it.
 #[derive(Clone, Copy, Debug, PartialEq, Eq)]
 pub struct Rung {
     pub index: u64,
     pub provided: Bounds,
+    pub verdict: Verdict,
 }
 
 // Searches the ladder for the first rung that does not miss the need `required`; where all miss, there is none. What is provided grows with
 // the rung, so each trial rules out the rungs on one side of it. It is inlined in each pass.
 #[inline(always)]
 pub fn search(prepared: Provision, required: Bounds) -> Option<Rung>
-    ensures { result ≡ searched prepared.line.line required }
+    ensures { result ≡ searched prepared.line.line (verdict_for prepared.line.line required) }
 {
     let likely = likely_rung(prepared.line, prepared.film, required);
     // Every rung below low misses, and none from high on does; `found` is rung high, where there is one.
@@ -30,9 +31,14 @@ pub fn search(prepared: Provision, required: Bounds) -> Option<Rung>
     'ladder: while low < high {
         let r = next_trial(low, high, likely);
         let provided = prepared.at(Ladder::thickness(r));
-        if judge(provided, required).not_insufficient() {
+        let verdict = judge(provided, required);
+        if verdict.not_insufficient() {
             high = r;
-            found = Some(Rung { index: r, provided });
+            found = Some(Rung {
+                index: r,
+                provided,
+                verdict,
+            });
         } else {
             low = r + 1;
         }

@@ -21,7 +21,7 @@ pub enum Verdict {
 
 impl Verdict {
     // Does a rung with this verdict not miss? No open rung is skipped.
-    pub(crate) fn not_insufficient(self) -> bool
+    pub fn not_insufficient(self) -> bool
         ensures { result ≡ not_insufficient self }
     {
         self != Self::Insufficient

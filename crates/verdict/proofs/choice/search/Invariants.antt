@@ -3,20 +3,21 @@
 use Rattle.std.proofs.Common.{◌≡◌, ◌-◌, ◌≤◌, cond}
 use Rattle.std.specs.Prelude.{ltb, Some, None}
 use Rattle.lengths.specs.Ladder.{rungs}
-use Rattle.verdict.specs.Verdict.{verdict_of, first_not_insufficient}
-use Rattle.verdict.specs.Choice.{rung}
+use Rattle.verdict.specs.Verdict.{first_not_insufficient}
+use Rattle.verdict.specs.Choice.{verdict_for, rung}
 use Rattle.verdict.proofs.choice.search.Given as goal
 
 abbrev pub invariant-ladder : goal.invariant-ladder
 invariant-ladder l =
     let line = l.prepared.line.line in
-    let first = first_not_insufficient (verdict_of line l.required) in
+    let v = verdict_for line l.required in
+    let first = first_not_insufficient v in
     record {
       likely : l.likely ≤ rungs;
       below : l.low ≤ first;
       above : first ≤ l.high;
       within : l.high ≤ rungs;
-      found : l.found ≡ cond (ltb l.high rungs) (Some (rung line l.high)) None;
+      found : l.found ≡ cond (ltb l.high rungs) (Some (rung line v l.high)) None;
     }
 
 abbrev pub decreases-ladder : goal.decreases-ladder
