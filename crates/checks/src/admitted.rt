@@ -1,13 +1,15 @@
-// A sheet that none of the refusals 12 to 16 sends back.
-ghost use Rattle.std.specs.Prelude.{◌≡◌, is_some, true};
+// A sheet that none of the refusals 12 to 16 and 43 sends back.
+ghost use Rattle.std.specs.Prelude.{◌≡◌, ◌≤◌, ◌&&◌, is_some, true, IfSome};
 ghost use Rattle.limits.specs.Limits.{loss_limit};
 ghost use Rattle.limits.specs.Printed.{printed};
 ghost use Rattle.answer.specs.declared.Pass.TheVariants.{Second};
 ghost use Rattle.sheet.specs.Sheet.{difference, goal_of};
+ghost use Rattle.sheet.specs.Search.{is_economy};
 ghost use Rattle.sheet.specs.Admitted.{Admitted};
 ghost use Rattle.sheet.specs.Passes.{goal_in};
 ghost use Rattle.sheet.proofs.OneProof.{one_proof};
 
+use jacket::JacketedPipe;
 use limits::loss_limit;
 use line::{CheckedLine, OperatingLine};
 use requirement::Goal;
@@ -20,6 +22,7 @@ pub struct AdmittedSheet {
     pub at: OperatingLine,
     pub limit: Option<u64>,
     pub ghost admitted: { Admitted sheet } by { one_proof sheet },
+    pub ghost aim_to: { sheet.aim ≤ 65_535 },
     pub ghost line_is: { at.line.line ≡ sheet.line },
     pub ghost difference_is: { at.difference ≡ difference sheet },
     pub ghost limit_is: { limit ≡ printed (loss_limit sheet.service sheet.temperature) },
@@ -27,7 +30,8 @@ pub struct AdmittedSheet {
 
 impl AdmittedSheet {
     pub fn of(sheet: Sheet) -> AdmittedSheet
-        requires { Admitted sheet }
+        requires admitted { Admitted sheet }
+        requires aim_to { sheet.aim ≤ 65_535 }
         ensures { result.sheet ≡ sheet }
     {
         let line = CheckedLine { line: sheet.line };
@@ -50,6 +54,18 @@ impl AdmittedSheet {
             GoalCode::ForSurface => Goal::Surface(
                 sheet.flow.difference(sheet.surface_aim(), sheet.ambient),
             ),
+        }
+    }
+
+    // The pipe with its jacket, where the goal counts it.
+    pub fn jacketed(self) -> Option<JacketedPipe>
+        ensures counted { is_some result ≡ (is_economy (goal_of self.sheet) && self.sheet.counts_jacket) }
+        ensures terms { IfSome result (λ p. (p.at ≡ self.at) × (p.terms ≡ self.sheet.economy) × (p.jacket ≡ self.sheet.aim)) }
+    {
+        let sheet = self.sheet;
+        match sheet.goal {
+            GoalCode::ForEconomy if sheet.counts_jacket => Some(JacketedPipe::of(self.at, sheet.economy, sheet.aim)),
+            _ => None,
         }
     }
 

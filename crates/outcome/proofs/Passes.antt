@@ -28,8 +28,8 @@ use Rattle.sheet.specs.Checks.{loss_check}
 use Rattle.sheet.specs.Passes.{goal_in, succeeds, check_between, pass_after, too_close, deciding_pass, deciding_goal, verdicts, chosen}
 use Rattle.sheet.specs.Refusals.{ladder_cases}
 use Rattle.sheet.proofs.Ladder.{all_insufficient, first_undecided, first_decided}
-use Rattle.sheet.proofs.Passes.{after_close}
-use Rattle.outcome.specs.Pass.{pass_by, next}
+use Rattle.sheet.proofs.Passes.{unchecked, after_close}
+use Rattle.outcome.specs.Pass.{passed, pass_by, next}
 
 -- what comes after a loss check between the passes
 pub next_refused : (c : Option Verdict) {why : Refusal} → next c ≡ Err why → (too_close c ≡ true) × (why ≡ TooClose)
@@ -44,10 +44,18 @@ next_pass (Some Insufficient) e = (refl, cc)
 next_pass (Some Undecided) e = cc
 next_pass None e = (refl, cc)
 
+passed_is : (a : Bool) (r : Rung) → passed (cond a (Some r) None) ≡ cond a (cond (is_undecided r.verdict) (Err TooClose) (Ok r)) (Err NoneSufficient)
+passed_is true r = refl
+passed_is false r = refl
+
 module _ (s : Sheet) where
+  -- the first rung that does not miss, if there is one
+  abbrev first_rung : Goal → Rung
+  first_rung goal = rung s.line (verdicts_by s goal) (first_by s goal)
+
   -- a pass found the rung r, or none
   pub record FoundRung (goal : Goal) (r : Rung) : Type 0 where
-    pub is : r ≡ rung s.line (first_by s goal)
+    pub is : r ≡ first_rung goal
     pub on_ladder : first_by s goal < rungs
     pub succeeded : succeeds s goal ≡ true
 
@@ -56,11 +64,11 @@ module _ (s : Sheet) where
   Told goal (Err why) = succeeds s goal ≡ false
 
   pub told : (goal : Goal) → Told goal (pass_by s goal)
-  told goal = go (ltb (first_by s goal) rungs) (is_undecided (verdicts_by s goal (first_by s goal))) refl refl
+  told goal = rw (passed_is (ltb (first_by s goal) rungs) (first_rung goal)) (go (ltb (first_by s goal) rungs) (is_undecided (verdicts_by s goal (first_by s goal))) refl refl)
     where
       go :
           (a b : Bool) → ltb (first_by s goal) rungs ≡ a → is_undecided (verdicts_by s goal (first_by s goal)) ≡ b →
-          Told goal (cond a (cond b (Err TooClose) (Ok (rung s.line (first_by s goal)))) (Err NoneSufficient))
+          Told goal (cond a (cond b (Err TooClose) (Ok (first_rung goal))) (Err NoneSufficient))
       go true true e f = rw (e, undecided_if _ f)
       go true false e f =
           let lt = ltb-true (first_by s goal) rungs e in
@@ -68,9 +76,8 @@ module _ (s : Sheet) where
       go false b e f = rw e
 
   -- the loss check between the passes, where the first found none, and where it found r
-  pub unchecked : (why : Refusal) → pass_by s (goal_of s) ≡ Err why → check_between s ≡ None
-  unfolding check_between
-  unchecked why e = let none : succeeds s (goal_of s) ≡ false = rw e at (told (goal_of s)) in rw (none, and-false)
+  pub none_checked : (why : Refusal) → pass_by s (goal_of s) ≡ Err why → check_between s ≡ None
+  none_checked why e = unchecked s (rw e at (told (goal_of s)))
 
   pub checked : (r : Rung) → pass_by s (goal_of s) ≡ Ok r → check_between s ≡ cond s.respects_limit (loss_check s r.provided) None
   unfolding check_between
@@ -82,11 +89,11 @@ module _ (s : Sheet) where
   of_pass bytes (Err why) = refused (number_of why)
 
   pub ended : (bytes : List ℕ) → too_close (check_between s) ≡ false → respond (ladder_cases s) bytes ≡ of_pass bytes (pass_by s (deciding_goal s))
-  ended bytes not_close = go (ltb (chosen s) rungs) (is_undecided (verdicts s (chosen s))) refl refl
+  ended bytes not_close = rw (passed_is (ltb (chosen s) rungs) (first_rung (deciding_goal s))) (go (ltb (chosen s) rungs) (is_undecided (verdicts s (chosen s))) refl refl)
     where
       go :
           (a b : Bool) → ltb (chosen s) rungs ≡ a → is_undecided (verdicts s (chosen s)) ≡ b →
-          respond (ladder_cases s) bytes ≡ of_pass bytes (cond a (cond b (Err TooClose) (Ok (rung s.line (chosen s)))) (Err NoneSufficient))
+          respond (ladder_cases s) bytes ≡ of_pass bytes (cond a (cond b (Err TooClose) (Ok (first_rung (deciding_goal s)))) (Err NoneSufficient))
       go true true e f = first_undecided s bytes (ltb-true _ _ e) (rw f)
       go true false e f = first_decided s bytes (ltb-true _ _ e) (rw (f, not_close))
       go false b e f = all_insufficient s bytes (omega (arith, ltb-false _ _ e, first_within (verdicts s)))

@@ -1,18 +1,20 @@
 // The call that answers a sheet.
-ghost use Rattle.std.specs.Prelude.{◌≡◌, ◌<◌, cond, IfOk, IfErr, Some, None};
+ghost use Rattle.std.specs.Prelude.{◌≡◌, ◌≤◌, ◌<◌, cond, IfOk, IfErr, Some, None};
 ghost use Rattle.verdict.specs.declared.Verdict.TheVariants.{Insufficient};
+ghost use Rattle.verdict.specs.Choice.{verdict_for, searched};
 ghost use Rattle.lengths.specs.Ladder.{thickness_at, rungs};
 ghost use Rattle.refusals.specs.Cases.{NoneHolds, FirstHolds};
 ghost use Rattle.refusals.specs.Numbers.{number_of};
 ghost use Rattle.refusals.specs.Response.{respond};
 ghost use Rattle.provision.specs.Provided.{provided};
+ghost use Rattle.sheet.specs.Sheet.{goal_of};
 ghost use Rattle.sheet.specs.Checks.{loss_check};
 ghost use Rattle.sheet.specs.Passes.{check_between, deciding_pass, chosen};
 ghost use Rattle.answer.specs.Answer.{encoded};
 ghost use Rattle.sheet.specs.Answer.{answer_of};
 ghost use Rattle.sheet.specs.Refusals.{value_cases, ladder_cases, response_to};
 ghost use Rattle.outcome.specs.Outcome.{response};
-ghost use Rattle.outcome.specs.Pass.{passed, next};
+ghost use Rattle.outcome.specs.Pass.{passed, pass_by, next};
 
 use answer::{Answer, Pass};
 use checks::AdmittedSheet;
@@ -22,7 +24,7 @@ use provision::Provision;
 use refusals::Refusal;
 use requirement::required;
 use sheet::Sheet;
-use verdict::{Rung, Verdict, judge, search};
+use verdict::{Rung, Verdict, search};
 
 // Works out the sheet that these bytes are.
 #[tactic(auto, unfolding(refusals::specs::Response::respond))]
@@ -40,6 +42,7 @@ pub fn work_out(bytes: &[u8]) -> Result<Answer, Refusal>
 // Admits a sheet by its fields: the tests, in the order of the refusals.
 #[tactic(auto, unfolding(refusals::specs::Cases::NoneHolds, refusals::specs::Cases::FirstHolds))]
 fn admit(sheet: Sheet) -> Result<AdmittedSheet, Refusal>
+    requires { sheet.aim ≤ 65_535 }
     ensures admitted { IfOk result (λ a. (a.sheet ≡ sheet) × NoneHolds (value_cases sheet)) }
     ensures refused { IfErr result (λ why. FirstHolds (number_of why) (value_cases sheet)) }
 {
@@ -63,6 +66,10 @@ fn admit(sheet: Sheet) -> Result<AdmittedSheet, Refusal>
     if invalid {
         return Err(Refusal::InvalidAim);
     }
+    let flat = sheet.flat_with_jacket();
+    if flat {
+        return Err(Refusal::NotCylinder);
+    }
     Ok(AdmittedSheet::of(sheet))
 }
 
@@ -71,12 +78,23 @@ fn search_ladder(sheet: AdmittedSheet) -> Result<Answer, Refusal>
     ensures { response result ≡ respond (ladder_cases sheet.sheet) (encoded (answer_of sheet.sheet (chosen sheet.sheet))) }
 {
     let prepared = Provision::of(sheet.at.line);
-    let need = required(sheet.at, sheet.goal());
-    let first = pass(prepared, need)?;
+    let first = first_pass(sheet, prepared)?;
     let loss = sheet.loss_check(first.provided);
     match next_pass(sheet.sheet.respects_limit, loss)? {
         Pass::First => Ok(answer_of(sheet, Pass::First, first, loss)),
         Pass::Second => second_pass(sheet, prepared),
+    }
+}
+
+// The first pass, by the sheet's own goal.
+#[inline(always)]
+fn first_pass(sheet: AdmittedSheet, prepared: Provision) -> Result<Rung, Refusal>
+    requires { prepared.line ≡ sheet.at.line }
+    ensures { result ≡ pass_by sheet.sheet (goal_of sheet.sheet) }
+{
+    match sheet.jacketed() {
+        Some(pipe) => meeting(pipe.search(prepared)),
+        None => meeting(search(prepared, required(sheet.at, sheet.goal()))),
     }
 }
 
@@ -97,30 +115,29 @@ fn second_pass(sheet: AdmittedSheet, prepared: Provision) -> Result<Answer, Refu
     ensures { response result ≡ respond (ladder_cases sheet.sheet) (encoded (answer_of sheet.sheet (chosen sheet.sheet))) }
 {
     let need = required(sheet.at, sheet.second_goal());
-    let rung = pass_apart(prepared, need)?;
+    let rung = meeting(search_apart(prepared, need))?;
     let loss = sheet.loss_check(rung.provided);
     Ok(answer_of(sheet, Pass::Second, rung, loss))
 }
 
-// A pass over the ladder: the first rung that does not miss the need has to meet it.
-#[inline(always)]
-fn pass(prepared: Provision, need: Bounds) -> Result<Rung, Refusal>
-    ensures { result ≡ passed prepared.line.line need }
+// The first rung that does not miss has to meet.
+fn meeting(found: Option<Rung>) -> Result<Rung, Refusal>
+    ensures { result ≡ passed found }
 {
-    let rung = search(prepared, need).ok_or(Refusal::NoneSufficient)?;
-    let open = judge(rung.provided, need).is_undecided();
+    let first = found.ok_or(Refusal::NoneSufficient)?;
+    let open = first.verdict.is_undecided();
     if open {
         return Err(Refusal::TooClose);
     }
-    Ok(rung)
+    Ok(first)
 }
 
-// The same as a function of its own, for the second pass. The first, which every admitted sheet takes, has it inlined.
+// The search as a function of its own, for the second pass. The first, which every admitted sheet but that of goal 7 takes, has it inlined.
 #[inline(never)]
-fn pass_apart(prepared: Provision, need: Bounds) -> Result<Rung, Refusal>
-    ensures { result ≡ passed prepared.line.line need }
+fn search_apart(prepared: Provision, need: Bounds) -> Option<Rung>
+    ensures { result ≡ searched prepared.line.line (verdict_for prepared.line.line need) }
 {
-    pass(prepared, need)
+    search(prepared, need)
 }
 
 // The answer with a rung, by the pass that found it.

@@ -2,7 +2,7 @@
 -- Assumes nothing.
 use Rattle.std.specs.Prelude.{ℕ}
 use Rattle.refusals.specs.declared.Refusal.{Refusal}
-use Rattle.refusals.specs.declared.Refusal.TheVariants.{SheetLength, UnknownCode, OutOfRange, NotZero, NoDrivingDifference, InvalidAim, NoneSufficient, TooClose, BookSize, CountAboveCapacity, NoSuchEntry, BookFull, EntryUnsound, RateOrTerm, ShareUndecided}
+use Rattle.refusals.specs.declared.Refusal.TheVariants.{SheetLength, UnknownCode, OutOfRange, NotZero, NoDrivingDifference, InvalidAim, NotCylinder, NoneSufficient, TooClose, BookSize, CountAboveCapacity, NoSuchEntry, BookFull, EntryUnsound, RateOrTerm, ShareUndecided}
 
 abbrev pub number_of : Refusal → ℕ
 number_of SheetLength = 11
@@ -11,6 +11,7 @@ number_of OutOfRange = 13
 number_of NotZero = 14
 number_of NoDrivingDifference = 15
 number_of InvalidAim = 16
+number_of NotCylinder = 43
 number_of NoneSufficient = 17
 number_of TooClose = 18
 number_of BookSize = 31

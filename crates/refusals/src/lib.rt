@@ -13,9 +13,10 @@ pub enum Refusal {
     OutOfRange = 13,
     NotZero = 14,
     // No temperature difference that drives heat in the goal's direction; a loss aim of 0, or a surface aim that is not between the air and
-    // the pipe.
+    // the pipe; a jacket counted on a flat wall.
     NoDrivingDifference = 15,
     InvalidAim = 16,
+    NotCylinder = 43,
     // No thickness of the ladder is enough; the first that may be enough is not known to be.
     NoneSufficient = 17,
     TooClose = 18,

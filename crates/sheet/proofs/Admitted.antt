@@ -6,7 +6,7 @@ use mathlib.Core.List.{◌++◌}
 use Prim.Native.Nat.{◌+◌, ◌-◌, ◌≤◌}
 use native.Mathlib.Nat.{le_trans, pos_of_ne-zero}
 use native.Mathlib.Omega.{arith}
-use borrow.Author.Tests.{eqb-false, not-false}
+use borrow.Author.Tests.{eqb-false, ltb-false, not-false}
 use Rattle.std.specs.Prelude.{is_some}
 use Rattle.temperatures.specs.declared.Temperature.{Temperature}
 use Rattle.temperatures.specs.Temperature.{zero_degrees}
@@ -27,7 +27,7 @@ use Rattle.sheet.proofs.FirstFault.{inside, behind}
 
 -- each goal's own range, from the fields that only it uses, and from case 16
 goal_in_range :
-    (s : Sheet) (g : GoalCode) → is_some (first_fault 13 (economy_fields (uses_economy g) s ++ aim_fields (uses_aim g) s)) ≡ false → difference s ≤ 7_000 → aim_refused s g ≡ false → GoalInRange (goal_with s g)
+    (s : Sheet) (g : GoalCode) → is_some (first_fault 13 (economy_fields (uses_economy g) s ++ aim_fields (uses_aim s.counts_jacket g) s)) ≡ false → difference s ≤ 7_000 → aim_refused s g ≡ false → GoalInRange (goal_with s g)
 goal_in_range s ForEconomy fields near aim =
     let heat = inside 13 _ _ fields refl in
     let hours = inside 13 _ _ heat.rest refl in
@@ -78,4 +78,5 @@ admitted s f =
       difference_from = differs s.flow s.temperature s.ambient (not-false _ f.1.1.1.0);
       difference_to = near;
       goal = goal_in_range s s.goal coefficient.rest near f.1.1.1.1.0;
+      cylinder = λ counts. ltb-false 10_000 s.line.diameter.0 (rw counts at f.1.1.1.1.1.0);
     }

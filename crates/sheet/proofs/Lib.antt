@@ -3,3 +3,4 @@ pub mod Ladder
 pub mod Admitted
 pub mod OneProof
 pub mod Passes
+pub mod Criteria

@@ -1,7 +1,7 @@
 -- What it means that there is a loss check between the passes.
 -- Assumes nothing.
 use mathlib.Core.Path.{◌≡◌, refl, ap}
-use mathlib.Core.Bool.{Bool, true, false, cond, ◌&&◌}
+use mathlib.Core.Bool.{Bool, true, false, cond, ◌&&◌, and-false}
 use Prim.Native.Nat.{◌≤◌}
 use native.Mathlib.Omega.{arith}
 use borrow.Author.Tests.{eq-eqb}
@@ -38,6 +38,11 @@ between s v = go s.respects_limit (succeeds s (goal_of s)) refl refl
 pub no_check : (s : Sheet) → s.respects_limit ≡ false → check_between s ≡ None
 unfolding check_between
 no_check s e = ap (λ (b : Bool). cond (b && succeeds s (goal_of s)) (first_check s) None) e
+
+-- nor is there one where the first pass gives no thickness
+pub unchecked : (s : Sheet) → succeeds s (goal_of s) ≡ false → check_between s ≡ None
+unfolding check_between
+unchecked s fails = rw (fails, and-false)
 
 -- the second pass comes after a check that says over
 pub after_over : (c : Option Verdict) → pass_after c ≡ Second → c ≡ Some Insufficient

@@ -1,7 +1,7 @@
--- The ranges of a sheet for which cases 12 to 16 fail, as far as what works it out asks for them. 01, "The sheet: 24 bytes",
--- and 02, N2 and N4.
+-- The ranges of a sheet for which cases 12 to 16 and 43 fail, as far as what works it out asks for them. 01, "The sheet: 24 bytes",
+-- and 02, N2, N4 and N6.
 -- Assumes nothing.
-use Rattle.std.specs.Prelude.{◌+◌, ◌-◌, ◌≤◌}
+use Rattle.std.specs.Prelude.{◌+◌, ◌-◌, ◌≤◌, ◌≡◌, true}
 use Rattle.line.specs.Range.{LineInRange}
 use Rattle.requirement.specs.Ranges.{GoalInRange}
 use Rattle.temperatures.specs.Temperature.{zero_degrees}
@@ -19,3 +19,4 @@ pub record Admitted (s : Sheet) : Type 0 where
   pub difference_from : 1 ≤ difference s
   pub difference_to : difference s ≤ 7_000
   pub goal : GoalInRange (goal_of s)
+  pub cylinder : s.counts_jacket ≡ true → s.line.diameter.0 ≤ 10_000

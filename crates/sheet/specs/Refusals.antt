@@ -1,9 +1,9 @@
--- What is sent back. 01, "Sent back because of the sheet", and 02, N5; N4: "Refusals 12 to 16 read these conditions for goals 4 and 5".
+-- What is sent back. 01, "Sent back because of the sheet", and 02, N5 and N6; N4: "Refusals 12 to 16 read these conditions for goals 4 and 5".
 -- Assumes nothing.
-use Rattle.std.specs.Prelude.{ℕ, Bool, false, not, ◌&&◌, ◌||◌, List, [], ◌∷◌, ◌++◌, eqb, length, is_some}
+use Rattle.std.specs.Prelude.{ℕ, Bool, false, not, ◌&&◌, ◌||◌, List, [], ◌∷◌, ◌++◌, eqb, ltb, length, is_some}
 use Rattle.lengths.specs.Ladder.{rungs}
 use Rattle.refusals.specs.declared.Refusal.{Refusal}
-use Rattle.refusals.specs.declared.Refusal.TheVariants.{SheetLength, UnknownCode, OutOfRange, NotZero, NoDrivingDifference, InvalidAim, NoneSufficient, TooClose}
+use Rattle.refusals.specs.declared.Refusal.TheVariants.{SheetLength, UnknownCode, OutOfRange, NotZero, NoDrivingDifference, InvalidAim, NotCylinder, NoneSufficient, TooClose}
 use Rattle.refusals.specs.Numbers.{number_of}
 use Rattle.refusals.specs.Cases.{Case, case}
 use Rattle.refusals.specs.Response.{Response, respond}
@@ -40,6 +40,8 @@ value_cases s =
     case (number_of NoDrivingDifference) (not (beyond s.flow s.temperature s.ambient)) ∷
     -- "16: goal 2 with aim 0; goal 3 unless ta < aim < t."; goal 4 unless t < aim < ta
     case (number_of InvalidAim) (aim_refused s s.goal) ∷
+    -- "43, after 16, for goal 7 with D above 10,000." (02, N6)
+    case (number_of NotCylinder) (s.counts_jacket && ltb 10_000 s.line.diameter.0) ∷
     []
 
 -- the cases that need no rung

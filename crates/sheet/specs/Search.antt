@@ -1,9 +1,14 @@
--- The search of the ladder. 01, "Ladder and figures".
+-- The search of the ladder. 01, "Ladder and figures", and 02, N6.
 -- Assumes nothing.
-use Rattle.std.specs.Prelude.{ℕ}
+use Rattle.std.specs.Prelude.{ℕ, Bool, true, false, cond, ◌&&◌}
 use Rattle.fractions.specs.declared.Bounds.{Bounds}
+use Rattle.lengths.specs.declared.units.Thickness.{Thickness}
 use Rattle.requirement.specs.declared.Goal.{Goal}
+use Rattle.requirement.specs.declared.Goal.TheVariants.{Economy, Loss, Surface}
 use Rattle.requirement.specs.Required.{Requirement, requirement, enclosing}
+use Rattle.requirement.specs.Criterion.{Criterion}
+use Rattle.requirement.specs.Criterion.Criterion.{enclosed}
+use Rattle.jacket.specs.Jacket.{jacketed}
 use Rattle.verdict.specs.declared.Verdict.{Verdict}
 use Rattle.verdict.specs.Verdict.{verdict_of, first_not_insufficient}
 use Rattle.sheet.specs.declared.fields.Sheet.{Sheet}
@@ -17,9 +22,20 @@ requirement_of s goal = requirement s.line (difference s) goal
 abbrev pub required_of : Sheet → Goal → Bounds
 required_of s goal = enclosing (requirement_of s goal)
 
+abbrev pub is_economy : Goal → Bool
+is_economy (Economy e) = true
+is_economy (Loss aim) = false
+is_economy (Surface beyond) = false
+
+-- what a thickness is judged by, against a goal: the same requirement at every thickness, between low need and high need; but under economy
+-- that counts the jacket "Have and need both depend on the rung" (02, N6), and the aim is the jacket's price
+abbrev pub criterion_of : Sheet → Goal → Thickness → Criterion
+criterion_of s goal k =
+    cond (is_economy goal && s.counts_jacket) (jacketed s.line (difference s) s.economy s.aim k) (enclosed (requirement_of s goal))
+
 -- the verdict on the rung with index r, against a goal
 abbrev pub verdicts_by : Sheet → Goal → ℕ → Verdict
-verdicts_by s goal = verdict_of s.line (required_of s goal)
+verdicts_by s goal = verdict_of s.line (criterion_of s goal)
 
 -- "The first rung that doesn't miss", against a goal: its index
 abbrev pub first_by : Sheet → Goal → ℕ

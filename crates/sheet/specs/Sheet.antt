@@ -1,4 +1,4 @@
--- The fields of a sheet. 01, "The sheet: 24 bytes", and 02, N4 and N5.
+-- The fields of a sheet. 01, "The sheet: 24 bytes", and 02, N4 to N6.
 -- Assumes nothing.
 use Rattle.std.specs.Prelude.{ℕ, Bool, true, false, cond, ◌||◌, List, eqb, get_or}
 use Rattle.big_endian.specs.Bytes.{big_endian}
@@ -15,9 +15,9 @@ use Rattle.sheet.specs.declared.fields.GoalCode.TheVariants.{ForEconomy, ForLoss
 use Rattle.sheet.specs.declared.fields.Sheet.{Sheet}
 
 -- "1 economy, 2 loss, 3 surface"; "Goal 4 is cold surface", "goal 5 is cold economy" (02, N4); "Goal 6 is goal 1 with that second pass"
--- (02, N5). Every other code is refused with 12.
+-- (02, N5); goal 7 takes another economy formula (02, N6). Every other code is refused with 12.
 abbrev pub goal_code : ℕ → GoalCode
-goal_code n = cond (eqb n 1 || eqb n 5 || eqb n 6) ForEconomy (cond (eqb n 2) ForLoss ForSurface)
+goal_code n = cond (eqb n 1 || eqb n 5 || eqb n 6 || eqb n 7) ForEconomy (cond (eqb n 2) ForLoss ForSurface)
 
 -- goals 4 and 5 are those of "Cold lines" (02, N4)
 abbrev pub flow_of : ℕ → HeatFlow
@@ -26,6 +26,10 @@ flow_of n = cond (eqb n 4 || eqb n 5) Inward Outward
 -- goal 6 is that of "Economy that respects the loss limit" (02, N5)
 abbrev pub respects_limit : ℕ → Bool
 respects_limit n = eqb n 6
+
+-- goal 7 takes "the DL/T 5072 economy formula, 5.2.1-2, which counts the jacket by the square metre" (02, N6)
+abbrev pub counts_jacket : ℕ → Bool
+counts_jacket n = eqb n 7
 
 -- "2–3": the "line number", which no other figure depends on
 abbrev pub line_number : List ℕ → ℕ
@@ -39,6 +43,7 @@ decoded b =
       goal = goal_code (get_or b 0 0);
       flow = flow_of (get_or b 0 0);
       respects_limit = respects_limit (get_or b 0 0);
+      counts_jacket = counts_jacket (get_or b 0 0);
       service = get_or b 1 0;
       line = record { diameter = tenths (big_endian b 4 2); conductivity = big_endian b 10 2; coefficient = big_endian b 12 2 };
       temperature = signed (big_endian b 6 2);
@@ -48,17 +53,17 @@ decoded b =
     }
 
 -- "Offsets 14–21 are used for goal 1 only"; "Goal 5 uses offsets 14–21 as goal 1 does and its aim is zero." (02, N4); "Goal 6 is goal 1
--- with that second pass; its aim is zero." (02, N5)
+-- with that second pass; its aim is zero." (02, N5); goal 7 stands "beside goal 1's fields" (02, N6)
 abbrev pub uses_economy : GoalCode → Bool
 uses_economy ForEconomy = true
 uses_economy ForLoss = false
 uses_economy ForSurface = false
 
--- "The aim is zero for goal 1.", and for goals 5 and 6
-abbrev pub uses_aim : GoalCode → Bool
-uses_aim ForEconomy = false
-uses_aim ForLoss = true
-uses_aim ForSurface = true
+-- "The aim is zero for goal 1.", and for goals 5 and 6; for goal 7 "the jacket price in yuan/m²" is "in the aim field" (02, N6)
+abbrev pub uses_aim : (counts_jacket : Bool) → GoalCode → Bool
+uses_aim counts_jacket ForEconomy = counts_jacket
+uses_aim counts_jacket ForLoss = true
+uses_aim counts_jacket ForSurface = true
 
 -- Δ: "t − ta", and "ta − t" on a cold line
 abbrev pub difference : Sheet → ℕ

@@ -1,5 +1,5 @@
 // What is wrong with a sheet, before a thickness is sought.
-ghost use Rattle.std.specs.Prelude.{◌≡◌, [], ◌∷◌, ◌++◌, if◌then◌else◌};
+ghost use Rattle.std.specs.Prelude.{◌≡◌, ◌&&◌, ltb, [], ◌∷◌, ◌++◌, if◌then◌else◌};
 ghost use Rattle.refusals.specs.Numbers.{number_of};
 ghost use Rattle.sheet.specs.Sheet.{uses_economy, uses_aim, surface_aim};
 ghost use Rattle.sheet.specs.Fields.{unused, used_if, codes, line_fields, economy_fields, fields, first_fault};
@@ -58,10 +58,10 @@ fn first_fault(fields: &[Field], why: Refusal) -> Option<u64>
 }
 
 impl Sheet {
-    // The list `fields` as an array. The list leaves out an aim that the goal uses, which refusal 16 judges; here 0 stands in its place, in
-    // which no search finds a fault.
+    // The list `fields` as an array. The list leaves out an aim that the goal uses; here 0 stands in its place, in which no search finds
+    // a fault.
     fn fields(self) -> [Field; 12]
-        ensures { let aim = (if uses_aim self.goal then 0 else self.aim) in
+        ensures { let aim = (if uses_aim self.counts_jacket self.goal then 0 else self.aim) in
             result ≡ codes self ++ line_fields self ++ economy_fields (uses_economy self.goal) self ++ unused 22 aim ∷ [] }
     {
         let zero = Temperature::ZERO as u64;
@@ -69,9 +69,10 @@ impl Sheet {
         let ta = self.ambient.0 as u64;
         let least = self.flow.least_temperature();
         let used = self.goal.uses_economy();
-        let aim = if self.goal.uses_aim() { 0 } else { self.aim };
+        let aim_used = self.goal.uses_aim(self.counts_jacket);
+        let aim = if aim_used { 0 } else { self.aim };
         [
-            Field::of(Refusal::UnknownCode, 0, self.code, 1, 6),
+            Field::of(Refusal::UnknownCode, 0, self.code, 1, 7),
             Field::of(Refusal::UnknownCode, 1, self.service, 1, 4),
             Field::of(Refusal::OutOfRange, 4, self.line.diameter.0, 100, 65_535),
             Field::of(Refusal::OutOfRange, 6, t, least, zero + 6_500),
@@ -99,6 +100,13 @@ impl Sheet {
         ensures { result ≡ surface_aim self }
     {
         Temperature::decode(self.aim)
+    }
+
+    // Is the jacket counted on a flat wall?
+    pub fn flat_with_jacket(self) -> bool
+        ensures { result ≡ (self.counts_jacket && ltb 10_000 self.line.diameter.0) }
+    {
+        self.counts_jacket & (self.line.diameter.0 > 10_000)
     }
 
     // Is the aim a loss of 0, or a surface temperature that is not between those of the air and the pipe?

@@ -1,6 +1,6 @@
 // The fields of a sheet's 24 bytes.
-ghost use Rattle.std.specs.Prelude.{◌≡◌, length};
-ghost use Rattle.sheet.specs.Sheet.{goal_code, flow_of, respects_limit, uses_economy, uses_aim, decoded};
+ghost use Rattle.std.specs.Prelude.{◌≡◌, ◌≤◌, length};
+ghost use Rattle.sheet.specs.Sheet.{goal_code, flow_of, respects_limit, counts_jacket, uses_economy, uses_aim, decoded};
 
 use big_endian::unsigned;
 use heat_flow::HeatFlow;
@@ -9,7 +9,7 @@ use line::Line;
 use requirement::EconomyTerms;
 use temperatures::Temperature;
 
-// The kind of goal by its code: 1, 5 and 6 economy, 2 loss, and every other surface.
+// The kind of goal by its code: 1, 5, 6 and 7 economy, 2 loss, and every other surface.
 #[derive(Clone, Copy, Debug, PartialEq, Eq)]
 pub enum GoalCode {
     ForEconomy,
@@ -24,7 +24,7 @@ impl GoalCode {
     pub(crate) fn of(code: u64) -> GoalCode
         ensures { result ≡ goal_code code }
     {
-        let economy = (code == 1) | (code == 5) | (code == 6);
+        let economy = (code == 1) | (code == 5) | (code == 6) | (code == 7);
         if economy {
             return GoalCode::ForEconomy;
         }
@@ -41,11 +41,14 @@ impl GoalCode {
         matches!(self, GoalCode::ForEconomy)
     }
 
-    // Does it use the aim?
-    pub(crate) fn uses_aim(self) -> bool
-        ensures { result ≡ uses_aim self }
+    // Does it use the aim? Economy does where it counts the jacket.
+    pub(crate) fn uses_aim(self, counts_jacket: bool) -> bool
+        ensures { result ≡ uses_aim counts_jacket self }
     {
-        matches!(self, GoalCode::ForLoss | GoalCode::ForSurface)
+        match self {
+            GoalCode::ForEconomy => counts_jacket,
+            GoalCode::ForLoss | GoalCode::ForSurface => true,
+        }
     }
 }
 
@@ -66,15 +69,23 @@ fn respects_limit(code: u64) -> bool
     code == 6
 }
 
-// The goal's code as it is written and as it is read, the direction of the heat's flow, whether the goal respects the loss limit, the
-// service, the insulated line, the temperatures t of the pipe and ta of the air, the economy terms, and the aim as it is written. Any 24
-// bytes are a sheet, so code and service are numbers: refusal 12 is of a number that is no goal or service.
+// Does the goal of a code count the jacket? Goal 7 does.
+fn counts_jacket(code: u64) -> bool
+    ensures { result ≡ counts_jacket code }
+{
+    code == 7
+}
+
+// The goal's code as it is written and as it is read, the direction of the heat's flow, whether the goal respects the loss limit and whether it
+// counts the jacket, the service, the insulated line, the temperatures t of the pipe and ta of the air, the economy terms, and the aim as it is
+// written. Any 24 bytes are a sheet, so code and service are numbers: refusal 12 is of a number that is no goal or service.
 #[derive(Clone, Copy, Debug, PartialEq, Eq)]
 pub struct Sheet {
     pub code: u64,
     pub goal: GoalCode,
     pub flow: HeatFlow,
     pub respects_limit: bool,
+    pub counts_jacket: bool,
     pub service: u64,
     pub line: Line,
     pub temperature: Temperature,
@@ -88,7 +99,8 @@ impl Sheet {
     #[tactic(auto, unfolding(crate::specs::Sheet::decoded))]
     pub fn decode(bytes: &[u8]) -> Sheet
         requires { length bytes.now ≡ 24 }
-        ensures { result ≡ decoded bytes.now }
+        ensures fields { result ≡ decoded bytes.now }
+        ensures aim_to { result.aim ≤ 65_535 }
     {
         let code = bytes[0] as u64;
         Sheet {
@@ -96,6 +108,7 @@ impl Sheet {
             goal: GoalCode::of(code),
             flow: flow_of(code),
             respects_limit: respects_limit(code),
+            counts_jacket: counts_jacket(code),
             service: bytes[1] as u64,
             line: Line {
                 diameter: Diameter(unsigned(bytes, 4)),

@@ -4,6 +4,6 @@ use Rattle.refusals.specs.Cases.{NoneHolds}
 use Rattle.sheet.proofs.Admitted.{admitted}
 use Rattle.outcome.proofs.work.admit.Goals as goal
 
-pub of-requires : goal.of-requires
+pub of-requires-clause-admitted : goal.of-requires-clause-admitted
 unfolding NoneHolds
-of-requires c = admitted c.args.sheet (search rules)
+of-requires-clause-admitted c = admitted c.args.sheet (search rules)

@@ -6,16 +6,16 @@ use Rattle.sheet.specs.Sheet.{goal_of}
 use Rattle.sheet.specs.Passes.{check_between, deciding_pass}
 use Rattle.sheet.proofs.Passes.{after_over}
 use Rattle.outcome.specs.Pass.{pass_by, next}
-use Rattle.outcome.proofs.Passes.{next_refused, next_pass, unchecked, checked, refused_by, Given, given, closed}
-use Rattle.outcome.proofs.work.search_ladder.Goals.{After-pass, After-next_pass, In-First}
+use Rattle.outcome.proofs.Passes.{next_refused, next_pass, none_checked, checked, refused_by, Given, given, closed}
+use Rattle.outcome.proofs.work.search_ladder.Goals.{After-first_pass, After-next_pass, In-First}
 use Rattle.outcome.proofs.work.search_ladder.Goals as goal
 
-by_own_goal : (c : After-pass) → let s = c.args.sheet.sheet in pass_by s (goal_of s) ≡ c.pass.result
-by_own_goal c = sym (rw (c.of-prepared.ensures, c.required-need.ensures, c.goal.ensures, c.args.sheet.line_is, c.args.sheet.difference_is) at c.pass.ensures)
+by_own_goal : (c : After-first_pass) → let s = c.args.sheet.sheet in pass_by s (goal_of s) ≡ c.first_pass.result
+by_own_goal c = sym c.first_pass.ensures
 
 -- the first pass found its rung, and what comes next is by the loss check between the passes
 first_found : (c : After-next_pass) → pass_by c.args.sheet.sheet (goal_of c.args.sheet.sheet) ≡ Ok c.in_ok-first.first
-first_found c = by_own_goal (goal.at.After-next_pass c).After-pass ∙ c.in_ok-first.was
+first_found c = by_own_goal (goal.at.After-next_pass c).After-first_pass ∙ c.in_ok-first.was
 
 after : (c : After-next_pass) → next (check_between c.args.sheet.sheet) ≡ c.next_pass.result
 after c = ap next (checked c.args.sheet.sheet c.in_ok-first.first (first_found c)) ∙ rw (← c.loss_check-loss.ensures) (sym c.next_pass.ensures)
@@ -32,8 +32,8 @@ returns-in_err-first c =
     let s = c.args.sheet.sheet in
     let p = err_from_is_err_and c.from_residual.result c.from_residual.ensures.1 in
     let why = c.in_err-first.field-0.0 in
-    let none = by_own_goal (goal.at.returns-in_err-first c).After-pass ∙ c.in_err-first.was in
-    rw (p.1, p.2) (sym (refused_by s First (rw (unchecked s why none)) (rw (unchecked s why none)) _ why none))
+    let none = by_own_goal (goal.at.returns-in_err-first c).After-first_pass ∙ c.in_err-first.was in
+    rw (p.1, p.2) (sym (refused_by s First (rw (none_checked s why none)) (rw (none_checked s why none)) _ why none))
 
 pub returns-in_err-next_pass : goal.returns-in_err-next_pass
 returns-in_err-next_pass c =

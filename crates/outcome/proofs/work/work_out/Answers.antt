@@ -19,7 +19,7 @@ unfolding respond
 returns-in_err-sheet c =
     let p = err_from_is_err_and c.from_residual.result c.from_residual.ensures.1 in
     let s = decoded c.args.bytes.now in
-    let first : FirstHolds (number_of c.in_err-sheet.field-0.0) (value_cases s) = rw (← c.decode.ensures) c.in_err-sheet.ensures.refused in
+    let first : FirstHolds (number_of c.in_err-sheet.field-0.0) (value_cases s) = rw (← c.decode.ensures.fields) c.in_err-sheet.ensures.refused in
     rw (p.1, p.2, eq-eqb (length c.args.bytes.now) 24 (omega arith)) (sym (first_counts _ (value_cases s) (ladder_cases s) (answer c.args.bytes.now) first))
 
 pub returns : goal.returns
@@ -27,6 +27,6 @@ unfolding respond
 returns c =
     let s = decoded c.args.bytes.now in
     let admitted = c.in_ok-sheet.ensures.admitted in
-    let none : NoneHolds (value_cases s) = rw (← c.decode.ensures) admitted.1 in
+    let none : NoneHolds (value_cases s) = rw (← c.decode.ensures.fields) admitted.1 in
     rw (eq-eqb (length c.args.bytes.now) 24 (omega arith), later (value_cases s) (ladder_cases s) (answer c.args.bytes.now) none)
-    (c.search_ladder.ensures ∙ ap (λ (s : Sheet). respond (ladder_cases s) (encoded (answer_of s (chosen s)))) (admitted.0 ∙ c.decode.ensures))
+    (c.search_ladder.ensures ∙ ap (λ (s : Sheet). respond (ladder_cases s) (encoded (answer_of s (chosen s)))) (admitted.0 ∙ c.decode.ensures.fields))

@@ -10,4 +10,4 @@ pub returns : goal.returns
 returns c =
     let s = c.args.self in
     rw (c.first_fault.ensures, c.fields.ensures)
-    (aim_at_end (number_of c.args.why) s (uses_aim s.goal) (codes s ++ line_fields s ++ economy_fields (uses_economy s.goal) s))
+    (aim_at_end (number_of c.args.why) s (uses_aim s.counts_jacket s.goal) (codes s ++ line_fields s ++ economy_fields (uses_economy s.goal) s))
