@@ -1,32 +1,33 @@
 -- The three demands, as `specs/Demands.antt` states them.
 -- Assumes nothing.
-use mathlib.Core.Path.{◌≡◌, refl, ap, ◌∙◌}
-use mathlib.Core.List.{[]}
-use Prim.Native.Nat.{◌≤◌, ◌<◌}
+use mathlib.Core.Path.{◌≡◌, refl, sym, ap, ◌∙◌}
+use mathlib.Core.Bool.{Bool, true, false}
+use mathlib.Core.Logic.{◌↔◌}
+use mathlib.Core.List.{List, []}
+use Prim.Native.Nat.{ℕ, ◌≤◌, ◌<◌}
 use native.Mathlib.Omega.{arith}
-use Rattle.lengths.specs.Ladder.{thickness_at}
+use Rattle.lengths.specs.declared.units.Thickness.{Thickness}
+use Rattle.lengths.specs.Ladder.{rungs, thickness_at}
 use Rattle.refusals.specs.Cases.{numbers}
-use Rattle.refusals.specs.Response.{after}
+use Rattle.refusals.specs.Response.{complete, after}
 use Rattle.refusals.proofs.Response.{first_or_complete}
 use Rattle.big_endian.specs.Bytes.{big_endian}
-use Rattle.requirement.specs.Exact.{denominator}
-use Rattle.requirement.proofs.Requirements.{in_range_proper}
-use Rattle.verdict.proofs.FirstRung.{least_anywhere}
+use Rattle.requirement.specs.Criterion.{Criterion}
+use Rattle.verdict.proofs.FirstRung.{Sound, Least, least_up_to, least_anywhere}
 use Rattle.verdict.proofs.Judgement.{MeetsOn, MissesOn, meets_stays, sound}
 use Rattle.sheet.specs.declared.fields.Sheet.{Sheet}
-use Rattle.sheet.specs.Sheet.{decoded, difference}
-use Rattle.sheet.specs.Search.{requirement_of}
+use Rattle.sheet.specs.Sheet.{decoded}
+use Rattle.sheet.specs.Search.{criterion_of}
 use Rattle.sheet.specs.Passes.{deciding_goal, verdicts, chosen}
 use Rattle.sheet.specs.Answer.{answer}
-use Rattle.sheet.specs.Refusals.{cases}
-use Rattle.sheet.specs.Admitted.{Admitted}
-use Rattle.sheet.proofs.Passes.{deciding_in_range}
+use Rattle.sheet.specs.Refusals.{cases, response_to}
+use Rattle.sheet.proofs.Criteria.{one_criterion, deciding_proper}
 use Rattle.layout.specs.Layout.{standard}
 use Rattle.layout.proofs.Standard.{standard_usable}
 use Rattle.book.specs.Book.{new_book, with_entry}
 use Rattle.book.specs.Refusals.{making_cases, filing_cases, reading_cases}
-use Rattle.demands.specs.Demands.{Demand1, Demand2, Demand3, SurfaceBound, Denominators}
-use Rattle.demands.proofs.Sheets.{answered, answer_thickness, sheet_demand_2}
+use Rattle.demands.specs.Demands.{Demand1, Demand2, HeldTo, Demand3, SurfaceBound, Denominators}
+use Rattle.demands.proofs.Sheets.{Answered, answered, answer_thickness, sheet_demand_2}
 use Rattle.demands.proofs.Surface.{figure_den, dens, surface_dens, both_within}
 use Rattle.demands.proofs.ReadingBack.{reads_back, takes_sheets}
 
@@ -50,10 +51,6 @@ pub demand_2 : Demand2
 demand_2 =
     record { of_sheets = sheet_demand_2; reads_back = reads_back standard standard_usable refl; takes_sheets = takes_sheets standard standard_usable refl }
 
--- no denominator is 0
-proper : (s : Sheet) → Admitted s → 0 < denominator (requirement_of s (deciding_goal s))
-proper s in_range = in_range_proper s.line (difference s) (deciding_goal s) in_range.line (deciding_in_range s in_range)
-
 pub denominators : Denominators
 denominators sheet bytes h m hm r =
     let s = decoded sheet in
@@ -62,22 +59,43 @@ denominators sheet bytes h m hm r =
     let le : k.0 ≤ 300 = omega arith in
     let exact = dens s in_range k le m hm in
     let surfaces = surface_dens s in_range k le m hm in
-    (in_range.difference_from, proper s in_range, exact.0, exact.1, figure_den s in_range k le, surfaces.0, surfaces.1)
+    (in_range.difference_from, deciding_proper s in_range k, exact.0, exact.1, figure_den s in_range k le, surfaces.0, surfaces.1)
 
 pub surface_bound_lem : SurfaceBound
 surface_bound_lem sheet bytes h m hm =
     let got = (sheet_demand_2 sheet).answered bytes h in
     rw (got.thickness, got.bound) (both_within (decoded sheet) (answered sheet bytes h).0.admitted (thickness_at got.found.rung) (omega arith) m hm)
 
+-- what demand 3 says of the rung with index r, given that it is the chosen one exactly where it is the least
+module _ (sheet bytes : List ℕ) (h : response_to sheet ≡ complete bytes) (m : ℕ) (hm : 1 ≤ m) where
+  abbrev s : Sheet
+  s = decoded sheet
+
+  abbrev criterion : Thickness → Criterion
+  criterion = criterion_of s (deciding_goal s)
+
+  known : Answered sheet
+  known = (answered sheet bytes h).0
+
+  exact : Sound (verdicts s) (MeetsOn m s.line criterion) (MissesOn m s.line criterion)
+  exact = sound s.line criterion (deciding_proper s known.admitted) m (omega (arith, known.admitted.line.coefficient_from)) (omega (arith, known.admitted.line.diameter_from)) hm
+
+  is : big_endian bytes 2 2 ≡ (thickness_at (chosen s)).0
+  is = rw (← (answered sheet bytes h).1) (answer_thickness s)
+
+  -- under goal 7 up to the answer; otherwise at every rung, since each has the same criterion
+  least : (r : ℕ) → r < rungs → HeldTo s (big_endian bytes 2 2) r → (chosen s ≡ r) ↔ Least (MeetsOn m s.line criterion) (MissesOn m s.line criterion) r
+  least r lt held = go s.counts_jacket refl
+    where
+      go : (b : Bool) → s.counts_jacket ≡ b → (chosen s ≡ r) ↔ Least (MeetsOn m s.line criterion) (MissesOn m s.line criterion) r
+      go true e = least_up_to (verdicts s) _ _ exact known.enough r (omega (arith, lt, known.found, held e, is))
+      go false e =
+          least_anywhere (verdicts s) _ _ exact known.enough
+          (λ i j le. meets_stays s.line criterion (deciding_proper s known.admitted) m (omega (arith, known.admitted.line.coefficient_from)) (omega (arith, known.admitted.line.diameter_from)) hm i j le (one_criterion s (deciding_goal s) e (thickness_at i) ∙ sym (one_criterion s (deciding_goal s) e (thickness_at j))))
+          r
+
 pub demand_3 : Demand3
-demand_3 sheet bytes h m hm r lt =
-    let s = decoded sheet in
-    let q = requirement_of s (deciding_goal s) in
-    let got = answered sheet bytes h in
-    let known = got.0 in
-    let some = proper s known.admitted in
-    let law =
-    least_anywhere (verdicts s) (MeetsOn m s.line q) (MissesOn m s.line q) (sound s.line q some m (omega arith) (omega arith) hm) known.enough
-    (meets_stays s.line q some m (omega arith) (omega arith) hm) r in
-    let is : big_endian bytes 2 2 ≡ (thickness_at (chosen s)).0 = rw (← got.1) (answer_thickness s) in
-    (λ e. law.0 (omega (arith, known.found)), λ e. is ∙ ap (λ i. (thickness_at i).0) (law.1 e))
+demand_3 sheet bytes h m hm r lt held =
+    let law = least sheet bytes h m hm r lt held in
+    let chosen_is = is sheet bytes h m hm in
+    (λ e. law.0 (omega (arith, e, lt, (known sheet bytes h m hm).found, chosen_is)), λ e. chosen_is ∙ ap (λ i. (thickness_at i).0) (law.1 e))

@@ -8,10 +8,11 @@ use mathlib.Core.List.{List, [], ◌∷◌, ◌++◌, map, Memᴰ}
 use Prim.Native.Nat.{ℕ}
 use lib.Dec.{eqb}
 use lib.ListN.{get_or}
+use borrow.Author.Tests.{eqb-true}
 use Rattle.sheet.specs.declared.fields.GoalCode.{GoalCode}
 use Rattle.sheet.specs.declared.fields.GoalCode.TheVariants.{ForEconomy, ForLoss, ForSurface}
 use Rattle.sheet.specs.declared.fields.Sheet.{Sheet}
-use Rattle.sheet.specs.Sheet.{uses_economy, uses_aim, decoded}
+use Rattle.sheet.specs.Sheet.{goal_code, counts_jacket, uses_economy, uses_aim, decoded}
 use Rattle.sheet.specs.declared.faults.Field.{Field}
 use Rattle.sheet.specs.Fields.{economy_fields, aim_fields, fields}
 use Rattle.demands.specs.Offsets.{stands_at, Offsets}
@@ -26,31 +27,49 @@ module _ (b : List ℕ) where
   each [] e f m = absurd (Memᴰ.not-nil m)
   each (g ∷ fs) e f m = ⊎_elim (λ here. rw here e.0) (λ later. each fs e.1 f later) (Memᴰ.cases_cons m)
 
-  own : (g : GoalCode) → Each (economy_fields (uses_economy g) (decoded b) ++ aim_fields (uses_aim g) (decoded b))
+  own : (counted : Bool) (g : GoalCode) → Each (economy_fields (uses_economy g) (decoded b) ++ aim_fields (uses_aim counted g) (decoded b))
   unfolding decoded
-  own ForEconomy = (refl, (refl, (refl, (refl, (refl, tt)))))
-  own ForLoss = (refl, (refl, (refl, (refl, tt))))
-  own ForSurface = (refl, (refl, (refl, (refl, tt))))
+  own false ForEconomy = (refl, (refl, (refl, (refl, (refl, tt)))))
+  own true ForEconomy = (refl, (refl, (refl, (refl, tt))))
+  own counted ForLoss = (refl, (refl, (refl, (refl, tt))))
+  own counted ForSurface = (refl, (refl, (refl, (refl, tt))))
 
   all : Each (fields (decoded b))
   unfolding decoded
-  all = (refl, (refl, (refl, (refl, (refl, (refl, (refl, own (decoded b).goal)))))))
+  all = (refl, (refl, (refl, (refl, (refl, (refl, (refl, own (decoded b).counts_jacket (decoded b).goal)))))))
 
-  -- the offsets of the fields that only some goals use: of a goal that is economy, loss or neither
-  own_order :
-      (s : Sheet) (one two : Bool) →
-      let g = cond one ForEconomy (cond two ForLoss ForSurface) in
-      map (λ (f : Field). f.offset) (economy_fields (uses_economy g) s ++ aim_fields (uses_aim g) s) ≡ (14 ∷ 16 ∷ 18 ∷ 20 ∷ cond one (22 ∷ []) [])
-  own_order s true two = refl
-  own_order s false true = refl
-  own_order s false false = refl
+  abbrev offsets_of : List Field → List ℕ
+  offsets_of = map (λ (f : Field). f.offset)
+
+  -- the offsets of the fields that only some goals use, by the goal's code n
+  module _ (s : Sheet) (n : ℕ) where
+    abbrev own_fields : (counted : Bool) → GoalCode → List Field
+    own_fields counted g = economy_fields (uses_economy g) s ++ aim_fields (uses_aim counted g) s
+
+    but_7 :
+        (one five six two : Bool) → offsets_of (own_fields false (cond (one || five || six || false) ForEconomy (cond two ForLoss ForSurface))) ≡
+        (14 ∷ 16 ∷ 18 ∷ 20 ∷ cond (one || five || six) (22 ∷ []) [])
+    but_7 true five six two = refl
+    but_7 false true six two = refl
+    but_7 false false true two = refl
+    but_7 false false false true = refl
+    but_7 false false false false = refl
+
+    own_order : offsets_of (own_fields (counts_jacket n) (goal_code n)) ≡ (14 ∷ 16 ∷ 18 ∷ 20 ∷ cond (eqb n 1 || eqb n 5 || eqb n 6) (22 ∷ []) [])
+    own_order = go (eqb n 7) refl
+      where
+        go :
+            (seven : Bool) → eqb n 7 ≡ seven →
+            offsets_of (own_fields seven (cond (eqb n 1 || eqb n 5 || eqb n 6 || seven) ForEconomy (cond (eqb n 2) ForLoss ForSurface))) ≡
+            (14 ∷ 16 ∷ 18 ∷ 20 ∷ cond (eqb n 1 || eqb n 5 || eqb n 6) (22 ∷ []) [])
+        go true e = rw (eqb-true n 7 e) refl
+        go false e = but_7 (eqb n 1) (eqb n 5) (eqb n 6) (eqb n 2)
 
   in_order :
       map (λ (f : Field). f.offset) (fields (decoded b)) ≡
       (0 ∷ 1 ∷ 4 ∷ 6 ∷ 8 ∷ 10 ∷ 12 ∷ 14 ∷ 16 ∷ 18 ∷ 20 ∷ cond (eqb (get_or b 0 0) 1 || eqb (get_or b 0 0) 5 || eqb (get_or b 0 0) 6) (22 ∷ []) [])
   unfolding decoded
-  in_order =
-      ap (λ (rest : List ℕ). 0 ∷ 1 ∷ 4 ∷ 6 ∷ 8 ∷ 10 ∷ 12 ∷ rest) (own_order (decoded b) (eqb (get_or b 0 0) 1 || eqb (get_or b 0 0) 5 || eqb (get_or b 0 0) 6) (eqb (get_or b 0 0) 2))
+  in_order = ap (λ (rest : List ℕ). 0 ∷ 1 ∷ 4 ∷ 6 ∷ 8 ∷ 10 ∷ 12 ∷ rest) (own_order (decoded b) (get_or b 0 0))
 
 pub offsets : Offsets
 offsets = record { order = in_order; values = λ b. each b (fields (decoded b)) (all b) }

@@ -16,7 +16,7 @@ use Rattle.sheet.specs.declared.fields.Sheet.{Sheet}
 use Rattle.sheet.specs.Sheet.{goal_of}
 use Rattle.sheet.specs.Search.{verdicts_by, first_by}
 use Rattle.sheet.specs.Passes.{goal_in, succeeds, first_check, check_between, pass_after, too_close, deciding_pass}
-use Rattle.sheet.proofs.Passes.{between, after_over}
+use Rattle.sheet.proofs.Passes.{between, unchecked, after_over}
 use Rattle.demands.specs.Demands.{InsufficientBelow, FirstUndecided, Found, Checked, Reaches, Decides}
 
 module _ (s : Sheet) where
@@ -57,8 +57,7 @@ module _ (s : Sheet) where
 
   -- a pass that is reached and finds no rung decides
   pub decided : (p : Pass) → Reaches s p → succeeds s (goal_in s p) ≡ false → deciding_pass s ≡ p
-  unfolding check_between
-  decided First reached fails = rw (fails, and-false)
+  decided First reached fails = rw (unchecked s fails)
   decided Second reached fails = rw (check_is Insufficient reached)
 
   pub none_fails : (goal : Goal) → InsufficientBelow (verdicts_by s goal) rungs → succeeds s goal ≡ false

@@ -16,7 +16,7 @@ use Rattle.heat_flow.specs.declared.HeatFlow.{HeatFlow}
 use Rattle.heat_flow.specs.declared.HeatFlow.TheVariants.{Outward, Inward}
 use Rattle.line.specs.Line.{shape_of}
 use Rattle.requirement.specs.declared.Goal.{Goal}
-use Rattle.requirement.specs.Exact.{Meets, Misses, denominator}
+use Rattle.requirement.specs.Criterion.{MeetsBy, MissesBy, IsFraction}
 use Rattle.provision.specs.Provided.{provided}
 use Rattle.provision.specs.Exact.{provided_exactly}
 use Rattle.verdict.specs.declared.Verdict.{Verdict}
@@ -26,7 +26,7 @@ use Rattle.answer.specs.declared.Pass.TheVariants.{First, Second}
 use Rattle.answer.specs.Answer.{pass_code, shape_code, check_code, loss_code}
 use Rattle.sheet.specs.declared.fields.Sheet.{Sheet}
 use Rattle.sheet.specs.Sheet.{decoded, difference, goal_of}
-use Rattle.sheet.specs.Search.{requirement_of, verdicts_by}
+use Rattle.sheet.specs.Search.{criterion_of, verdicts_by}
 use Rattle.sheet.specs.Checks.{loss_check, surface_check}
 use Rattle.sheet.specs.Passes.{goal_in, deciding_pass, deciding_goal}
 use Rattle.sheet.specs.Answer.{surface_difference, surface_bound, answer}
@@ -37,9 +37,9 @@ use Rattle.layout.specs.Sizes.{capacity, count}
 use Rattle.book.specs.Book.{stored_sheet, stored_answer}
 use Rattle.book.specs.Refusals.{making_cases, filing_cases, reading_cases, making, made, filing, filed, reading}
 
--- "Tests run in this order." (01, "Sent back because of the sheet")
+-- "Tests run in this order." (01, "Sent back because of the sheet"); "43, after 16" (02, N6)
 abbrev pub sheet_order : List ℕ
-sheet_order = 11 ∷ 12 ∷ 13 ∷ 14 ∷ 15 ∷ 16 ∷ 17 ∷ 18 ∷ []
+sheet_order = 11 ∷ 12 ∷ 13 ∷ 14 ∷ 15 ∷ 16 ∷ 43 ∷ 17 ∷ 18 ∷ []
 
 -- Demand 1: "The answer to every sheet and to every book, sound or damaged, is the number of the first listed refusal, in the listed order,
 -- whose stated case holds, and is complete when none holds; a refused filing changes no byte of the book, and a caller has nothing to check
@@ -159,6 +159,11 @@ pub record Demand2 : Type 0 where
   pub reads_back : ReadsBack standard
   pub takes_sheets : (lent : List ℕ) (c : ℕ) → making standard lent c ≡ complete [] → TakesSheets standard lent c
 
+-- the rungs that demand 3 speaks of, k mm being the answer: "every rung of the ladder" (00); for goal 7 "demand 3 runs over the rungs from
+-- 0 up to the answer, that one included, and no others" (02, N6)
+abbrev pub HeldTo : Sheet → ℕ → ℕ → Type 0
+HeldTo s k r = s.counts_jacket ≡ true → (thickness_at r).0 ≤ k
+
 -- Demand 3: "For every answered sheet, every cutting of the logarithm's area that the paper allows, however fine, and every rung of the
 -- ladder: that rung equals the thickness we give exactly when it meets the exact equation on that cutting's under-sum and the rung below
 -- it, if there is one, misses it on that cutting's over-sum." "the thickness is bytes 2–3 of the answer, and both rungs are judged by the
@@ -168,10 +173,11 @@ abbrev pub Demand3 : Type 0
 Demand3 =
     (sheet bytes : List ℕ) → response_to sheet ≡ complete bytes → (m : ℕ) → 1 ≤ m → (r : ℕ) → r < rungs →
     let s = decoded sheet in
-    let required = requirement_of s (deciding_goal s) in
+    let criterion = criterion_of s (deciding_goal s) in
+    HeldTo s (big_endian bytes 2 2) r →
     (big_endian bytes 2 2 ≡ (thickness_at r).0) ↔
-    (Meets required (provided_exactly (lower_sum m) s.line (thickness_at r)) ×
-    ((r ≡ 0) ⊎ Misses required (provided_exactly (upper_sum m) s.line (thickness_at (r - 1)))))
+    (MeetsBy (criterion (thickness_at r)) (provided_exactly (lower_sum m) s.line (thickness_at r)) ×
+    ((r ≡ 0) ⊎ MissesBy (criterion (thickness_at (r - 1))) (provided_exactly (upper_sum m) s.line (thickness_at (r - 1)))))
 
 -- how far the surface lies beyond the air by the exact equation, with a thickness k: exact have in place of under-have. This is what (5)
 -- and (6) of 000 give, and on a cold line (31) and (36).
@@ -194,14 +200,14 @@ SurfaceBound =
     let bound = signed (big_endian bytes 6 2) in
     NotBeyond s.flow s.ambient (surface_difference_exactly (lower_sum m) s k) bound × NotBeyond s.flow s.ambient (surface_difference_exactly (upper_sum m) s k) bound
 
--- What demand 3 and the surface bound compare are fractions: no denominator of need is 0, nor of have by either sum, nor of how far the
+-- What demand 3 and the surface bound compare are fractions: no denominator of need or of its square is 0, nor of have by either sum, nor of how far the
 -- surface lies beyond the air, for under-have or for exact have. And Δ is above 0.
 abbrev pub Denominators : Type 0
 Denominators =
     (sheet bytes : List ℕ) → response_to sheet ≡ complete bytes → (m : ℕ) → 1 ≤ m → (r : ℕ) →
     let s = decoded sheet in
     let k = thickness_at r in
-    (0 < difference s) × (0 < denominator (requirement_of s (deciding_goal s))) ×
+    (0 < difference s) × IsFraction (criterion_of s (deciding_goal s) k) ×
     (0 < (provided_exactly (lower_sum m) s.line k).den) × (0 < (provided_exactly (upper_sum m) s.line k).den) ×
     (0 < (surface_difference s.line (difference s) ((provided s.line k).lower over 1)).den) ×
     (0 < (surface_difference_exactly (lower_sum m) s k).den) × (0 < (surface_difference_exactly (upper_sum m) s k).den)

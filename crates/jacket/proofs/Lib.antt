@@ -1,2 +1,3 @@
 pub mod Sizes
 pub mod Cleared
+pub mod Proper
