@@ -26,6 +26,7 @@ use Rattle.sheet.specs.Passes.{succeeds, first_check, check_between}
 use Rattle.sheet.specs.Answer.{answer_of, surface_bound, answer}
 use Rattle.sheet.specs.Refusals.{field_cases, ladder_cases, cases, response_to}
 use Rattle.sheet.proofs.Ladder.{first_decided}
+use Rattle.sheet.proofs.Passes.{unchecked}
 use Rattle.demands.specs.Demands.{AnswerTo, Found}
 use Rattle.demands.specs.Demands.Eighteen.{check_too_close}
 use Rattle.demands.proofs.Passes.{found, found_first, found_succeeds, checked}
@@ -59,10 +60,6 @@ module _ (rest : List ℕ) where
   as_1 c is (inl e) = rw (is, e) refl
   as_1 c is (inr e) = rw (is, e) refl
 
-  unchecked : succeeds s₁ (goal_of s₁) ≡ false → check_between s₆ ≡ None
-  unfolding big_endian decoded check_between
-  unchecked e = ap (λ (b : Bool). cond b (first_check s₆) None) e
-
   pub refused_alike : (n : ℕ) → response_to (1 ∷ rest) ≡ refused n → response_to (6 ∷ rest) ≡ refused n
   unfolding big_endian decoded check_between
   refused_alike n h =
@@ -73,7 +70,7 @@ module _ (rest : List ℕ) where
             let given = first_decided s₁ (answer (1 ∷ rest)) (rw is f.on_ladder) (rw (is, f.sufficient)) in
             ap (λ (cs : List Case). respond (cs ++ ladder_cases s₆) (answer (6 ∷ rest))) same_fields
             ∙ from_front n (field_cases (1 ∷ rest)) (ladder_cases s₁) (ladder_cases s₆) _ (answer (6 ∷ rest)) given h
-        | inl e ↦ as_1 None (unchecked e) (inl refl) ∙ h
+        | inl e ↦ as_1 None (unchecked s₆ e) (inl refl) ∙ h
       ]
 
   -- the goal 1 sheet being answered

@@ -25,19 +25,8 @@ use Rattle.sheet.specs.Answer.{answer_of, surface_bound, answer}
 use Rattle.sheet.specs.Refusals.{field_cases, ladder_cases, response_to}
 use Rattle.sheet.proofs.Passes.{Printed, second_aim_some}
 use Rattle.promises.specs.WithinLimit.{loss_sheet, with_byte_0_as_1}
+use Rattle.promises.proofs.Places.{by_places, one_by_one}
 use Rattle.promises.proofs.AsGoal1.{same_fields}
-
--- a list of n numbers, one by one
-by_places : ℕ → List ℕ → List ℕ
-by_places zero l = []
-by_places (suc n) l = get_or l 0 0 ∷ by_places n (drop 1 l)
-
-one_by_one : (n : ℕ) (l : List ℕ) → length l ≡ n → l ≡ by_places n l
-unfolding by_places
-one_by_one zero [] e = refl
-one_by_one zero (x ∷ l) e = absurd (omega (arith, e))
-one_by_one (suc n) [] e = absurd (omega (arith, e))
-one_by_one (suc n) (x ∷ l) e = ap (λ (l : List ℕ). x ∷ l) (one_by_one n l (omega (arith, e)))
 
 -- a refusal, or the same bytes but for the first
 same_but_for_byte_0 : (b c : Bool) (x y : List ℕ) → x ≡ (1 ∷ drop 1 y) → respond (case 17 b ∷ case 18 c ∷ []) x ≡ with_byte_0_as_1 (respond (case 17 b ∷ case 18 c ∷ []) y)
@@ -86,7 +75,7 @@ module _ (r : List ℕ) where
     fields_2 : NoneHolds (field_cases (1 ∷ rest)) → NoneHolds (field_cases (loss_sheet rest a))
     unfolding NoneHolds first_fault big_endian bytes_of decoded rest by_places
     fields_2 none =
-        (refl, (none.1.0, (none_before 13 (codes s₂ ++ line_fields s₂) (economy_fields true s₁ ++ aim_fields false s₁) none.1.1.0, (refl, (none.1.1.1.1.0, (ne_eqb s₂.aim 0 (λ e. omega (arith, aim_is, aim_from, e)), tt))))))
+        (refl, (none.1.0, (none_before 13 (codes s₂ ++ line_fields s₂) (economy_fields true s₁ ++ aim_fields false s₁) none.1.1.0, (refl, (none.1.1.1.1.0, (ne_eqb s₂.aim 0 (λ e. omega (arith, aim_is, aim_from, e)), (refl, tt)))))))
 
     none_2 : check_between s₂ ≡ None
     unfolding decoded check_between

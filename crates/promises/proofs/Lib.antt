@@ -1,8 +1,10 @@
 pub mod Shares
 pub mod Limits
 pub mod ColdLines
+pub mod Places
 pub mod AsGoal1
 pub mod AsGoal2
 pub mod WithinLimit
+pub mod JacketPrice
 pub mod Promises
 pub mod Worked

@@ -17,12 +17,13 @@ pub record ColdAnswer (sheet bytes : List ℕ) : Type 0 where
   pub cold : (get_or sheet 0 0 ≡ 4) ⊎ (get_or sheet 0 0 ≡ 5)
   pub answered : response_to sheet ≡ complete bytes
 
--- a cold economy sheet and the hot one with t and ta exchanged; neither is of goal 6
+-- a cold economy sheet and the hot one with t and ta exchanged; neither is of goal 6 or 7
 pub record Exchanged (cold hot : Sheet) : Type 0 where
   pub inward : cold.flow ≡ Inward
   pub outward : hot.flow ≡ Outward
   pub economy : (cold.goal ≡ ForEconomy) × (hot.goal ≡ ForEconomy)
   pub one_pass : (cold.respects_limit ≡ false) × (hot.respects_limit ≡ false)
+  pub no_jacket : (cold.counts_jacket ≡ false) × (hot.counts_jacket ≡ false)
   pub temperatures : (cold.temperature ≡ hot.ambient) × (cold.ambient ≡ hot.temperature)
   pub same_line : cold.line ≡ hot.line
   pub same_terms : cold.economy ≡ hot.economy

@@ -2,5 +2,6 @@ pub mod Shares
 pub mod Limits
 pub mod ColdLines
 pub mod WithinLimit
+pub mod JacketPrice
 pub mod Promises
 pub mod Worked

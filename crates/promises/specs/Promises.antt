@@ -5,6 +5,7 @@ use Rattle.promises.specs.Shares.{Shares}
 use Rattle.promises.specs.Limits.{Limits}
 use Rattle.promises.specs.ColdLines.{ColdLines}
 use Rattle.promises.specs.WithinLimit.{WithinLimit}
+use Rattle.promises.specs.JacketPrice.{JacketPrice}
 
 pub record Promises : Type 0 where
   -- N1, yearly share from interest and years
@@ -17,3 +18,5 @@ pub record Promises : Type 0 where
   pub cold_lines : ColdLines
   -- N5, economy that respects the loss limit
   pub within_limit : WithinLimit
+  -- N6, the price of the jacket
+  pub jacket_price : JacketPrice
