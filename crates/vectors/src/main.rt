@@ -127,11 +127,11 @@ fn expect_end<R: io::Read>(reader: &mut R) -> Result<(), Failure>
 // The room is an array and a length beside it, since a read fills lent bytes. What `fill` says of a read that failed is not needed:
 // `expect_end` finds it out.
 fn main(rt: HostRuntime) {
-    let mut room = [0; 262144];
+    let mut room = [0; 327680];
     let mut input = rt.stdin();
     let (length, _) = fill(&mut input, &mut room);
     if length == room.len() {
-        return complain(&rt, "vectors", &"more than 262,143 bytes");
+        return complain(&rt, "vectors", &"more than 327,679 bytes");
     }
     if let Err(failure) = expect_end(&mut input).and_then(|_| run(&rt, &room[..length])) {
         complain(&rt, "vectors", &failure);
