@@ -3,8 +3,7 @@ ghost use Rattle.std.specs.Prelude.{◌≡◌, ◌≤◌, ◌&&◌, is_some, tru
 ghost use Rattle.limits.specs.Limits.{loss_limit};
 ghost use Rattle.limits.specs.Printed.{printed};
 ghost use Rattle.answer.specs.declared.Pass.TheVariants.{Second};
-ghost use Rattle.sheet.specs.Sheet.{difference, goal_of};
-ghost use Rattle.sheet.specs.Search.{is_economy};
+ghost use Rattle.sheet.specs.Sheet.{uses_economy, difference, goal_of};
 ghost use Rattle.sheet.specs.Admitted.{Admitted};
 ghost use Rattle.sheet.specs.Passes.{goal_in};
 ghost use Rattle.sheet.proofs.OneProof.{one_proof};
@@ -29,6 +28,8 @@ pub struct AdmittedSheet {
 }
 
 impl AdmittedSheet {
+    // This and `jacketed` are inlined, so that no sheet is copied.
+    #[inline(always)]
     pub fn of(sheet: Sheet) -> AdmittedSheet
         requires admitted { Admitted sheet }
         requires aim_to { sheet.aim ≤ 65_535 }
@@ -58,8 +59,9 @@ impl AdmittedSheet {
     }
 
     // The pipe with its jacket, where the goal counts it.
+    #[inline(always)]
     pub fn jacketed(self) -> Option<JacketedPipe>
-        ensures counted { is_some result ≡ (is_economy (goal_of self.sheet) && self.sheet.counts_jacket) }
+        ensures counted { is_some result ≡ (uses_economy self.sheet.goal && self.sheet.counts_jacket) }
         ensures terms { IfSome result (λ p. (p.at ≡ self.at) × (p.terms ≡ self.sheet.economy) × (p.jacket ≡ self.sheet.aim)) }
     {
         let sheet = self.sheet;

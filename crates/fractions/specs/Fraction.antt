@@ -13,6 +13,9 @@ n over d = record { num = n; den = d }
 abbrev pub plus : Fraction → Fraction → Fraction
 plus p q = (p.num * q.den + q.num * p.den) over (p.den * q.den)
 
+abbrev pub times : Fraction → Fraction → Fraction
+times p q = (p.num * q.num) over (p.den * q.den)
+
 -- p is not above q, where neither denominator is 0
 infix 50 ◌≼◌
 abbrev pub ◌≼◌ : Fraction → Fraction → Type 0

@@ -1,4 +1,4 @@
--- The criterion of a jacketed pipe with its fractions cleared: both sides multiplied by all that they are divided by, but for the outer
+-- The criterion of a jacketed pipe with its fractions cleared: both sides multiplied by all that either is divided by, but for the outer
 -- diameter, which stands on both.
 -- Assumes nothing.
 use mathlib.Core.Path.{◌≡◌, refl, ap, ◌∙◌}
@@ -9,15 +9,17 @@ use native.Mathlib.Omega.{arith}
 use lib.Dec.{leb, ltb}
 use borrow.Author.Tests.{leb-true, leb-false, ltb-true, ltb-false, le-leb, lt-leb, lt-ltb, le-ltb}
 use Rattle.fractions.specs.declared.Bounds.{Bounds}
-use Rattle.fractions.specs.Fraction.{Fraction, ◌over◌}
+use Rattle.fractions.specs.Fraction.{Fraction, ◌over◌, times}
 use Rattle.lengths.specs.declared.units.Thickness.{Thickness}
 use Rattle.lengths.specs.Units.{outer_diameter}
 use Rattle.line.specs.declared.Line.{Line}
+use Rattle.line.specs.declared.Shape.TheVariants.{Cylinder}
 use Rattle.requirement.specs.declared.EconomyTerms.{EconomyTerms}
 use Rattle.verdict.specs.declared.Verdict.TheVariants.{Insufficient}
+use Rattle.requirement.specs.Required.{economy_squared}
 use Rattle.requirement.specs.Criterion.Criterion.{squared, unattainable}
 use Rattle.verdict.specs.Verdict.{judged_by_squares, judged_by}
-use Rattle.jacket.specs.Jacket.{times, price_with_jacket, need_squared, jacketed}
+use Rattle.jacket.specs.Jacket.{price_with_jacket, jacketed}
 
 -- a factor on both sides of a comparison
 module _ (a b e : ℕ) (some : 0 < e) where
@@ -35,9 +37,9 @@ module _ (a b e : ℕ) (some : 0 < e) where
       go true is = lt-ltb _ _ (mul-lt-mul_of_pos_right (ltb-true a b is) some)
       go false is = le-ltb _ _ (mul-le-mul_right e (ltb-false a b is))
 
--- a fraction in other terms
-in_lowest : (p : Bounds) (a d e : ℕ) → 0 < e → judged_by_squares p ((a * e) over (d * e)) ≡ judged_by_squares p (a over d)
-in_lowest p a d e some =
+-- a factor in both terms of a fraction
+cancelled : (p : Bounds) (a d e : ℕ) → 0 < e → judged_by_squares p ((a * e) over (d * e)) ≡ judged_by_squares p (a over d)
+cancelled p a d e some =
     let lower : p.lower * p.lower * (d * e) ≡ p.lower * p.lower * d * e = omega arith in
     let upper : p.upper * p.upper * (d * e) ≡ p.upper * p.upper * d * e = omega arith in
     rw (lower, upper, same_le a (p.lower * p.lower * d) e some, same_lt (p.upper * p.upper * d) a e some)
@@ -46,34 +48,34 @@ module _ (l : Line) (Δ : ℕ) (e : EconomyTerms) (jacket : ℕ) (k : Thickness)
   abbrev E : ℕ
   E = (outer_diameter l.diameter k).0
 
-  abbrev surface : ℕ
-  surface = l.coefficient * E
+  abbrev outer : ℕ
+  outer = l.coefficient * E
 
-  abbrev film : ℕ
-  film = 200 * l.conductivity
+  abbrev critical : ℕ
+  critical = 200 * l.conductivity
 
   -- 1,000 fLτΔ × 14,402,025 (αE − 200L) over (PE + 20,000 × the jacket's price) S α
   abbrev pub cleared : Fraction
   cleared =
-      (1000 * (e.heat * l.conductivity * e.hours * Δ) * (14_402_025 * (surface - film))) over ((e.insulation * E + 20_000 * jacket) * e.share * l.coefficient)
+      (1000 * (e.heat * l.conductivity * e.hours * Δ) * (14_402_025 * (outer - critical))) over ((e.insulation * E + 20_000 * jacket) * e.share * l.coefficient)
 
   -- the fractions of the criterion, E being on both sides
-  terms : times ((surface - film) over surface) (need_squared l Δ e (price_with_jacket e jacket (outer_diameter l.diameter k))) ≡ (cleared.num * E) over (cleared.den * E)
-  terms = λ i. num (surface - film) i over den i
+  terms : times ((outer - critical) over outer) (economy_squared Cylinder l Δ e (price_with_jacket e jacket (outer_diameter l.diameter k))) ≡ (cleared.num * E) over (cleared.den * E)
+  terms = λ i. num (outer - critical) i over den i
     where
       num : (d : ℕ) → d * (14_402_025_000 * (e.heat * l.conductivity * e.hours * Δ) * (1 * E)) ≡ 1000 * (e.heat * l.conductivity * e.hours * Δ) * (14_402_025 * d) * E
       num d = omega arith
 
-      den : surface * ((e.insulation * E + 20_000 * jacket * 1) * e.share) ≡ (e.insulation * E + 20_000 * jacket) * e.share * l.coefficient * E
+      den : outer * ((e.insulation * E + 20_000 * jacket * 1) * e.share) ≡ (e.insulation * E + 20_000 * jacket) * e.share * l.coefficient * E
       den = omega arith
 
-  pub judged_cleared : (p : Bounds) → 0 < E → judged_by p (jacketed l Δ e jacket k) ≡ cond (leb surface film) Insufficient (judged_by_squares p cleared)
+  pub judged_cleared : (p : Bounds) → 0 < E → judged_by p (jacketed l Δ e jacket k) ≡ cond (leb outer critical) Insufficient (judged_by_squares p cleared)
   unfolding jacketed
-  judged_cleared p some = go (leb surface film)
+  judged_cleared p some = go (leb outer critical)
     where
       go :
           (t : Bool) →
-          judged_by p (cond t unattainable (squared (times ((surface - film) over surface) (need_squared l Δ e (price_with_jacket e jacket (outer_diameter l.diameter k)))))) ≡
+          judged_by p (cond t unattainable (squared (times ((outer - critical) over outer) (economy_squared Cylinder l Δ e (price_with_jacket e jacket (outer_diameter l.diameter k)))))) ≡
           cond t Insufficient (judged_by_squares p cleared)
       go true = refl
-      go false = ap (judged_by_squares p) terms ∙ in_lowest p cleared.num cleared.den E some
+      go false = ap (judged_by_squares p) terms ∙ cancelled p cleared.num cleared.den E some

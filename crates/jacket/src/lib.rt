@@ -22,11 +22,11 @@ pub struct JacketedPipe {
     pub at: OperatingLine,
     pub terms: EconomyTerms,
     pub jacket: u64,
-    pub heat: u64,
+    pub heat_cost: u64,
     pub ghost cylinder: { at.line.line.diameter.0 ≤ 10_000 },
     pub ghost terms_in_range: { EconomyInRange terms },
     pub ghost jacket_to: { jacket ≤ 65_535 },
-    pub ghost heat_is: { heat ≡ 1000 * (terms.heat * at.line.line.conductivity * terms.hours * at.difference) },
+    pub ghost heat_cost_is: { heat_cost ≡ 1000 * (terms.heat * at.line.line.conductivity * terms.hours * at.difference) },
 }
 
 impl JacketedPipe {
@@ -39,12 +39,13 @@ impl JacketedPipe {
             at,
             terms,
             jacket,
-            heat: 1000 * (terms.heat * at.line.line.conductivity * terms.hours * at.difference),
+            heat_cost: 1000 * (terms.heat * at.line.line.conductivity * terms.hours * at.difference),
         }
     }
 
     // Searches the ladder for the first rung that does not miss, from rung 0 up: rungs above it may miss again, so that a trial tells nothing
-    // of the rungs beyond it.
+    // of the rungs beyond it. It is not inlined, so that the search by the other goals keeps its place in the call.
+    #[inline(never)]
     pub fn search(self, prepared: Provision) -> Option<Rung>
         requires { prepared.line ≡ self.at.line }
         ensures { let line = self.at.line.line in
@@ -76,27 +77,28 @@ impl JacketedPipe {
         }
     }
 
-    // The verdict on a thickness that provides p. Both sides are multiplied by all that they are divided by, but for the outer diameter, by which
-    // both would be multiplied: have² × outlay is compared with 1,000 fLτΔ × 14,402,025 (αE − 200L).
+    // The verdict on a thickness that provides p, with all fractions cleared. E, by which both sides would then be multiplied, is left out:
+    // have² × (PE + 20,000 × the jacket's price) S α is compared with 1,000 fLτΔ × 14,402,025 (αE − 200L). 200L / α is the critical diameter of
+    // insulation, and only above it is the difference positive.
     fn judge(self, k: Thickness, p: Bounds) -> Verdict
         requires { (k.0 ≤ 300) × (p ≡ provided self.at.line.line k) }
         ensures { result ≡ judged_by p (jacketed self.at.line.line self.at.difference self.terms self.jacket k) }
     {
         let line = self.at.line.line;
         let e = line.diameter.outer(k).0;
-        let surface = line.coefficient * e;
-        let film = 200 * line.conductivity;
-        let positive = film < surface;
+        let outer = line.coefficient * e;
+        let critical = 200 * line.conductivity;
+        let positive = critical < outer;
         if !positive {
             return Verdict::Insufficient;
         }
-        let required = (self.heat as u128) * ((14_402_025 * (surface - film)) as u128);
-        let outlay = self.outlay(e) * line.coefficient;
-        judge_squares(p, required, outlay)
+        let heat = (self.heat_cost as u128) * ((14_402_025 * (outer - critical)) as u128);
+        let insulation = self.insulation_cost(e) * line.coefficient;
+        judge_squares(p, heat, insulation)
     }
 
     // (PE + 20,000 × the jacket's price) S: a year's share of what the insulation costs with its jacket.
-    fn outlay(self, e: u64) -> u64
+    fn insulation_cost(self, e: u64) -> u64
         requires { e ≤ 16_000 }
         ensures { (result ≡ (self.terms.insulation * e + 20_000 * self.jacket) * self.terms.share) × (result ≤ 65_535 * 36_000 * 10_000) }
     {
@@ -104,16 +106,16 @@ impl JacketedPipe {
     }
 }
 
-// The verdict where the square of what is required is required / outlay.
-fn judge_squares(p: Bounds, required: u128, outlay: u64) -> Verdict
-    requires { (p.lower * p.lower * outlay < 2 ^ 128) × (p.upper * p.upper * outlay < 2 ^ 128) }
-    ensures { result ≡ judged_by_squares p (required over outlay) }
+// The verdict where the square of have is compared with num / den.
+fn judge_squares(p: Bounds, num: u128, den: u64) -> Verdict
+    requires { (p.lower * p.lower * den < 2 ^ 128) × (p.upper * p.upper * den < 2 ^ 128) }
+    ensures { result ≡ judged_by_squares p (num over den) }
 {
-    let outlay = outlay as u128;
-    if required <= square(p.lower) * outlay {
+    let den = den as u128;
+    if num <= square(p.lower) * den {
         return Verdict::Sufficient;
     }
-    if square(p.upper) * outlay < required {
+    if square(p.upper) * den < num {
         return Verdict::Insufficient;
     }
     Verdict::Undecided

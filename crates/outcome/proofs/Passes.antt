@@ -1,7 +1,7 @@
 -- How the passes over the ladder end, and what the definitions respond then.
 -- Assumes nothing.
 use mathlib.Core.Path.{◌≡◌, refl, ◌∙◌, ap}
-use mathlib.Core.Bool.{Bool, true, false, cond, and-true, and-false, or-true}
+use mathlib.Core.Bool.{Bool, true, false, cond, and-true, or-true}
 use mathlib.Core.List.{List}
 use Prim.Native.Nat.{ℕ, ◌<◌}
 use native.Mathlib.Omega.{arith}

@@ -1,7 +1,7 @@
 -- What goal 6 gives, by what goal 1 gives for the same fields.
 -- Assumes nothing.
 use mathlib.Core.Path.{◌≡◌, refl, sym, ap, ◌∙◌}
-use mathlib.Core.Bool.{Bool, false, cond}
+use mathlib.Core.Bool.{Bool, cond}
 use mathlib.Core.Logic.{◌⊎◌, inl, inr}
 use mathlib.Mathlib.Data.Bool.Basic.{dichotomy}
 use mathlib.Core.List.{List, ◌∷◌, ◌++◌}

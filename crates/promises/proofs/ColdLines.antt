@@ -20,8 +20,8 @@ use Rattle.limits.specs.Limits.{surface_limit}
 use Rattle.limits.proofs.Rows.{none_below}
 use Rattle.limits.proofs.SurfaceLimit.{limit_above}
 use Rattle.sheet.specs.declared.fields.Sheet.{Sheet}
-use Rattle.sheet.specs.Sheet.{decoded, goal_of}
-use Rattle.sheet.specs.Search.{requirement_of, is_economy}
+use Rattle.sheet.specs.Sheet.{uses_economy, decoded, goal_of}
+use Rattle.sheet.specs.Search.{requirement_of}
 use Rattle.sheet.specs.Passes.{chosen}
 use Rattle.sheet.specs.Checks.{loss_check, surface_check}
 use Rattle.sheet.specs.Answer.{surface_bound}
@@ -68,11 +68,11 @@ module _ (sheet bytes : List ℕ) (h : ColdAnswer sheet bytes) where
 
 exchanged : (cold hot : Sheet) → Exchanged cold hot → (requirement_of cold (goal_of cold) ≡ requirement_of hot (goal_of hot)) × (chosen cold ≡ chosen hot)
 exchanged cold hot e =
-    rw (no_check cold e.one_pass.0, no_check hot e.one_pass.1, same_at_each cold (goal_of cold) (no_jacket cold e.no_jacket.0), same_at_each hot (goal_of hot) (no_jacket hot e.no_jacket.1))
+    rw (no_check cold e.one_pass.0, no_check hot e.one_pass.1, same_at_each cold cold.goal (no_jacket cold e.no_jacket.0), same_at_each hot hot.goal (no_jacket hot e.no_jacket.1))
     (rw (e.inward, e.outward, e.economy.0, e.economy.1, e.temperatures.0, e.temperatures.1, e.same_line, e.same_terms) (refl, refl))
   where
-    no_jacket : (s : Sheet) → s.counts_jacket ≡ false → (is_economy (goal_of s) && s.counts_jacket) ≡ false
-    no_jacket s none = ap (λ (b : Bool). is_economy (goal_of s) && b) none ∙ and-false _
+    no_jacket : (s : Sheet) → s.counts_jacket ≡ false → (uses_economy s.goal && s.counts_jacket) ≡ false
+    no_jacket s none = ap (λ (b : Bool). uses_economy s.goal && b) none ∙ and-false _
 
 pub cold_lines : ColdLines
 cold_lines = record { checks = cold_checks; bound_between = cold_bound; as_on_steam = exchanged }

@@ -6,6 +6,7 @@ use Rattle.fractions.specs.Fraction.{Fraction, ◌over◌}
 use Rattle.fractions.specs.Rounding.{rounded}
 use Rattle.roots.specs.Root.{root_bounds}
 use Rattle.line.specs.declared.Line.{Line}
+use Rattle.requirement.specs.declared.EconomyTerms.{EconomyTerms}
 use Rattle.requirement.specs.declared.Goal.{Goal}
 use Rattle.requirement.specs.declared.Goal.TheVariants.{Economy, Loss, Surface}
 use Rattle.line.specs.declared.Shape.{Shape}
@@ -21,6 +22,12 @@ abbrev pub economy_factor : Shape → ℕ
 economy_factor Cylinder = 14_402_025_000
 economy_factor Flat = 3_598_609_000
 
+-- the square of economy's need, by the price of what is put on: "14,402,025,000 × fLτΔ / (PS) on a cylinder", "3,598,609,000 × fLτΔ / (PS)
+-- on a flat wall", with a price in place of P
+abbrev pub economy_squared : Shape → Line → ℕ → EconomyTerms → Fraction → Fraction
+economy_squared shape l Δ e price =
+    (economy_factor shape * (e.heat * l.conductivity * e.hours * Δ) * price.den) over (price.num * e.share)
+
 -- What a goal requires of a line, Δ being the temperature difference.
 -- "economy: the square root of 14,402,025,000 × fLτΔ / (PS) on a cylinder, of 3,598,609,000 × fLτΔ / (PS) on a flat wall (coefficients
 -- 3.795×10⁻³ and 1.897×10⁻³ as printed, squared)"
@@ -30,7 +37,7 @@ economy_factor Flat = 3_598_609_000
 -- and print t − ta, which 02 reads as Δ; (9) and (13) are what (3) to (6) give for a surface temperature.
 unfoldable pub requirement : Line → ℕ → Goal → Requirement
 requirement l Δ (Economy e) =
-    root ((economy_factor (shape_of l) * (e.heat * l.conductivity * e.hours * Δ)) over (e.insulation * e.share))
+    root (economy_squared (shape_of l) l Δ e (e.insulation over 1))
 requirement l Δ (Loss aim) = ratio ((multiplier (shape_of l) * l.conductivity * Δ * 10 ^ 5) over aim)
 requirement l Δ (Surface s) = ratio ((multiplier (shape_of l) * l.conductivity * Δ * 10 ^ 7) over (l.coefficient * s))
 

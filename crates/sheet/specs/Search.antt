@@ -1,6 +1,6 @@
 -- The search of the ladder. 01, "Ladder and figures", and 02, N6.
 -- Assumes nothing.
-use Rattle.std.specs.Prelude.{ℕ, Bool, true, false, cond, ◌&&◌}
+use Rattle.std.specs.Prelude.{ℕ, cond}
 use Rattle.fractions.specs.declared.Bounds.{Bounds}
 use Rattle.lengths.specs.declared.units.Thickness.{Thickness}
 use Rattle.requirement.specs.declared.Goal.{Goal}
@@ -22,16 +22,12 @@ requirement_of s goal = requirement s.line (difference s) goal
 abbrev pub required_of : Sheet → Goal → Bounds
 required_of s goal = enclosing (requirement_of s goal)
 
-abbrev pub is_economy : Goal → Bool
-is_economy (Economy e) = true
-is_economy (Loss aim) = false
-is_economy (Surface beyond) = false
-
--- what a thickness is judged by, against a goal: the same requirement at every thickness, between low need and high need; but under economy
--- that counts the jacket "Have and need both depend on the rung" (02, N6), and the aim is the jacket's price
+-- What a thickness is judged by, against a goal. "Have and need both depend on the rung" (02, N6) under economy that counts the jacket, the aim
+-- being the jacket's price; otherwise the same is required at every thickness.
 abbrev pub criterion_of : Sheet → Goal → Thickness → Criterion
-criterion_of s goal k =
-    cond (is_economy goal && s.counts_jacket) (jacketed s.line (difference s) s.economy s.aim k) (enclosed (requirement_of s goal))
+criterion_of s (Economy e) k = cond s.counts_jacket (jacketed s.line (difference s) e s.aim k) (enclosed (requirement_of s (Economy e)))
+criterion_of s (Loss aim) k = enclosed (requirement_of s (Loss aim))
+criterion_of s (Surface beyond) k = enclosed (requirement_of s (Surface beyond))
 
 -- the verdict on the rung with index r, against a goal
 abbrev pub verdicts_by : Sheet → Goal → ℕ → Verdict

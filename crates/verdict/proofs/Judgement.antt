@@ -21,34 +21,33 @@ use Rattle.requirement.specs.Required.{enclosing}
 use Rattle.requirement.specs.Exact.{Meets, Misses}
 use Rattle.requirement.specs.Criterion.{Criterion, MeetsBy, MissesBy, IsFraction}
 use Rattle.requirement.specs.Criterion.Criterion.{enclosed, squared, unattainable}
-use Rattle.verdict.specs.Verdict.{judged_by, verdict_of}
+use Rattle.verdict.specs.Verdict.{judged, judged_by, verdict_of}
 use Rattle.provision.specs.Exact.{provided_exactly}
 use Rattle.requirement.proofs.Requirements.{meets_more, misses_less, never_both, upper_meets, lower_misses}
 use Rattle.provision.proofs.Enclosure.{lower_provided_den, upper_provided_den, provided_below, provided_above, provided_grows}
 use Rattle.verdict.proofs.FirstRung.{Sound}
 
--- what a verdict tells of what is provided, read exactly
-abbrev Told : Criterion → Bounds → Verdict → Type 0
-Told c p Sufficient = MeetsBy c (p.lower over 1)
-Told c p Insufficient = MissesBy c (p.upper over 1)
-Told c p Undecided = Unit {0}
+-- what a verdict tells, where p is provided and q required
+abbrev Told : Type 0 → Type 0 → Verdict → Type 0
+Told meets misses Sufficient = meets
+Told meets misses Insufficient = misses
+Told meets misses Undecided = Unit {0}
 
-told : (c : Criterion) (p : Bounds) → IsFraction c → Told c p (judged_by p c)
+told_bounds : (meets misses : Type 0) (p q : Bounds) → (q.upper ≤ p.lower → meets) → (p.upper < q.lower → misses) → Told meets misses (judged p q)
+told_bounds meets misses p q above below = go (leb q.upper p.lower) (ltb p.upper q.lower) refl refl
+  where
+    go : (a b : Bool) → leb q.upper p.lower ≡ a → ltb p.upper q.lower ≡ b → Told meets misses (cond a Sufficient (cond b Insufficient Undecided))
+    go true b e f = above (leb-true _ _ e)
+    go false true e f = below (ltb-true _ _ f)
+    go false false e f = tt
+
+-- what a verdict tells of what is provided, read exactly
+told : (c : Criterion) (p : Bounds) → IsFraction c → Told (MeetsBy c (p.lower over 1)) (MissesBy c (p.upper over 1)) (judged_by p c)
 unfolding Meets Misses
-told (enclosed q) p proper = go (leb (enclosing q).upper p.lower) (ltb p.upper (enclosing q).lower) refl refl
-  where
-    go : (a b : Bool) → leb (enclosing q).upper p.lower ≡ a → ltb p.upper (enclosing q).lower ≡ b → Told (enclosed q) p (cond a Sufficient (cond b Insufficient Undecided))
-    go true b e f = upper_meets q proper (leb-true _ _ e)
-    go false true e f = lower_misses q proper (ltb-true _ _ f)
-    go false false e f = tt
-told (squared q) p proper = go (leb q.num (p.lower * p.lower * q.den)) (ltb (p.upper * p.upper * q.den) q.num) refl refl
-  where
-    go :
-        (a b : Bool) → leb q.num (p.lower * p.lower * q.den) ≡ a → ltb (p.upper * p.upper * q.den) q.num ≡ b →
-        Told (squared q) p (cond a Sufficient (cond b Insufficient Undecided))
-    go true b e f = omega (arith, leb-true _ _ e)
-    go false true e f = omega (arith, ltb-true _ _ f)
-    go false false e f = tt
+told (enclosed q) p proper = told_bounds _ _ p (enclosing q) (upper_meets q proper) (lower_misses q proper)
+told (squared q) p proper =
+    told_bounds (Meets (root q) (p.lower over 1)) (Misses (root q) (p.upper over 1)) (record { lower = p.lower * p.lower * q.den; upper = p.upper * p.upper * q.den }) (record { lower = q.num; upper = q.num })
+    (λ le. omega (arith, le)) (λ lt. omega (arith, lt))
 told unattainable p proper = tt
 
 more_meets : (c : Criterion) (p h : Fraction) → 0 < p.den → p ≼ h → MeetsBy c p → MeetsBy c h
@@ -88,5 +87,5 @@ module _ (l : Line) (criterion : Thickness → Criterion) (proper : (k : Thickne
         apart = λ r. meets_stays r r (le_refl r) refl;
       }
     where
-      verdict_told : (r : ℕ) → Told (criterion (thickness_at r)) (provided l (thickness_at r)) (verdict_of l criterion r)
+      verdict_told : (r : ℕ) → let c = criterion (thickness_at r) in let p = provided l (thickness_at r) in Told (MeetsBy c (p.lower over 1)) (MissesBy c (p.upper over 1)) (verdict_of l criterion r)
       verdict_told r = told (criterion (thickness_at r)) (provided l (thickness_at r)) (proper (thickness_at r))

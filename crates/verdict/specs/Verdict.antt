@@ -23,7 +23,7 @@ judged p q = cond (leb q.upper p.lower) Sufficient (cond (ltb p.upper q.lower) I
 -- (02, N6)
 abbrev pub judged_by_squares : Bounds → Fraction → Verdict
 judged_by_squares p q =
-    cond (leb q.num (p.lower * p.lower * q.den)) Sufficient (cond (ltb (p.upper * p.upper * q.den) q.num) Insufficient Undecided)
+    judged (record { lower = p.lower * p.lower * q.den; upper = p.upper * p.upper * q.den }) (record { lower = q.num; upper = q.num })
 
 -- the verdict by a criterion: "A rung where the difference is not positive misses" (02, N6)
 abbrev pub judged_by : Bounds → Criterion → Verdict

@@ -24,26 +24,28 @@ pub fn search(prepared: Provision, required: Bounds) -> Option<Rung>
     ensures { result ≡ searched prepared.line.line (verdict_for prepared.line.line required) }
 {
     let likely = likely_rung(prepared.line, prepared.film, required);
-    // Every rung below low misses, and none from high on does; `found` is rung high, where there is one.
+    // Every rung below low misses, and none from high on does; `provided` is what rung high provides, where there is one.
     let mut low = 0;
     let mut high = Ladder::count();
-    let mut found = None;
+    let mut provided = Bounds::exact(0);
     'ladder: while low < high {
         let r = next_trial(low, high, likely);
-        let provided = prepared.at(Ladder::thickness(r));
-        let verdict = judge(provided, required);
-        if verdict.not_insufficient() {
+        let tried = prepared.at(Ladder::thickness(r));
+        if judge(tried, required).not_insufficient() {
             high = r;
-            found = Some(Rung {
-                index: r,
-                provided,
-                verdict,
-            });
+            provided = tried;
         } else {
             low = r + 1;
         }
     }
-    found
+    if high == Ladder::count() {
+        return None;
+    }
+    Some(Rung {
+        index: high,
+        provided,
+        verdict: judge(provided, required),
+    })
 }
 
 // The rung to try next, from low on and below high: the likely one, after it the one beside it, and then the middle one. Two trials

@@ -15,7 +15,7 @@ returns-then-not-positive c =
 
 pub judge_squares-requires : goal.judge_squares-requires
 judge_squares-requires c =
-    rw (c.requires.1) (squares_fit c.args.self.at.line.line c.args.k c.args.self.at.line.in_range c.args.self.cylinder c.requires.0 c.outlay.result c.outlay.ensures.1)
+    rw (c.requires.1) (squares_fit c.args.self.at.line.line c.args.k c.args.self.at.line.in_range c.args.self.cylinder c.requires.0 c.insulation_cost.result c.insulation_cost.ensures.1)
 
 pub returns : goal.returns
 returns c =

@@ -1,23 +1,22 @@
--- The first rung that does not miss lies from low to high, and what is found is rung high, where there is one. The measure is the distance
+-- The first rung that does not miss lies from low to high, and what is kept is what rung high provides, where there is one. The measure is the distance
 -- between the two.
-use Rattle.std.proofs.Common.{◌≡◌, ◌-◌, ◌≤◌, cond}
-use Rattle.std.specs.Prelude.{ltb, Some, None}
-use Rattle.lengths.specs.Ladder.{rungs}
+use Rattle.std.proofs.Common.{◌≡◌, ◌-◌, ◌≤◌, ◌<◌}
+use Rattle.lengths.specs.Ladder.{rungs, thickness_at}
+use Rattle.provision.specs.Provided.{provided}
 use Rattle.verdict.specs.Verdict.{first_not_insufficient}
-use Rattle.verdict.specs.Choice.{verdict_for, rung}
+use Rattle.verdict.specs.Choice.{verdict_for}
 use Rattle.verdict.proofs.choice.search.Given as goal
 
 abbrev pub invariant-ladder : goal.invariant-ladder
 invariant-ladder l =
     let line = l.prepared.line.line in
-    let v = verdict_for line l.required in
-    let first = first_not_insufficient v in
+    let first = first_not_insufficient (verdict_for line l.required) in
     record {
       likely : l.likely ≤ rungs;
       below : l.low ≤ first;
       above : first ≤ l.high;
       within : l.high ≤ rungs;
-      found : l.found ≡ cond (ltb l.high rungs) (Some (rung line v l.high)) None;
+      kept : l.high < rungs → l.provided ≡ provided line (thickness_at l.high);
     }
 
 abbrev pub decreases-ladder : goal.decreases-ladder
