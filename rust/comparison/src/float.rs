@@ -55,8 +55,9 @@ impl Case {
         }
     }
 
-    /// Need for economy: 3.795×10⁻³ or 1.897×10⁻³ times the root of fλτΔ/(PS).
-    fn required_for_economy(&self, sheet: &Sheet) -> f64 {
+    /// Need for economy at a price per m³: 3.795×10⁻³ or 1.897×10⁻³ times the
+    /// root of fλτΔ/(PS).
+    fn required_for_economy(&self, sheet: &Sheet, price: f64) -> f64 {
         let coefficient = match self.shape {
             Shape::Cylinder => 3.795e-3,
             Shape::Flat => 1.897e-3,
@@ -64,7 +65,18 @@ impl Case {
         let heat_price = f64::from(sheet.heat_price) / 100.0;
         let share = f64::from(sheet.yearly_share) / 10_000.0;
         let heat = heat_price * self.conductivity * f64::from(sheet.hours) * self.difference;
-        coefficient * (heat / (f64::from(sheet.insulation_price) * share)).sqrt()
+        coefficient * (heat / (price * share)).sqrt()
+    }
+
+    /// Goal 7: have over the root of 1 − 2λ/(αDo) is not below the need that
+    /// has the price of 2/Do m² of jacket in its P.
+    fn sufficient_with_jacket(&self, sheet: &Sheet, rung: u16, provided: f64) -> bool {
+        let outer = self.diameter + 2.0 * f64::from(rung) / 1_000.0;
+        let difference = 1.0 - self.film / outer;
+        let jacket = 2.0 * f64::from(sheet.jacket_price()) / outer;
+        let price = f64::from(sheet.insulation_price) + jacket;
+        let required = self.required_for_economy(sheet, price);
+        difference > 0.0 && provided / difference.sqrt() >= required
     }
 
     /// Need for a heat loss in tenths of W/m².
@@ -134,6 +146,24 @@ fn choose(case: &Case, required: f64) -> Option<Choice> {
         .find(|&(_, provided)| provided >= required)
 }
 
+/// The first rung that is sufficient for goal 7.
+fn choose_with_jacket(sheet: &Sheet, case: &Case) -> Option<Choice> {
+    plain::ladder()
+        .map(|rung| (rung, case.provided(rung)))
+        .find(|&(rung, provided)| case.sufficient_with_jacket(sheet, rung, provided))
+}
+
+/// The rung of the sheet's own goal, for goal 6 that of the first pass.
+fn choose_first(sheet: &Sheet, case: &Case) -> Option<Choice> {
+    let required = match sheet.goal.method() {
+        Method::Economy => case.required_for_economy(sheet, sheet.insulation_price.into()),
+        Method::Loss => case.required_for_loss(sheet.loss_aim()),
+        Method::Surface => case.required_for_surface(sheet.from_air(sheet.surface_aim())),
+        Method::JacketedEconomy => return choose_with_jacket(sheet, case),
+    };
+    choose(case, required)
+}
+
 /// Goal 6: a rung that is over the loss limit gives way to the one for 90 per
 /// cent of it.
 fn choose_again(sheet: &Sheet, case: &Case, first: Choice) -> Option<Choice> {
@@ -147,16 +177,11 @@ fn choose_again(sheet: &Sheet, case: &Case, first: Choice) -> Option<Choice> {
 }
 
 /// The rung chosen, with its checks and bound; none if there is no such rung.
-/// Refusals 11 to 16 are the sheet's own.
+/// Refusals 11 to 16 and 43 are the sheet's own.
 pub fn estimate(sheet: &[u8]) -> Result<Option<Estimate>, Refusal> {
     let sheet = plain::examine(sheet)?;
     let case = Case::new(&sheet);
-    let required = match sheet.goal.method() {
-        Method::Economy => case.required_for_economy(&sheet),
-        Method::Loss => case.required_for_loss(sheet.loss_aim()),
-        Method::Surface => case.required_for_surface(sheet.from_air(sheet.surface_aim())),
-    };
-    let first = choose(&case, required);
+    let first = choose_first(&sheet, &case);
     let chosen = first.and_then(|first| choose_again(&sheet, &case, first));
     Ok(chosen.map(|(thickness, provided)| {
         let (loss_check, surface_check) = checks(&sheet, &case, provided);

@@ -25,7 +25,7 @@ pub struct Field {
     /// The least value on the sheet of a cold line.
     pub cold_least: i32,
     pub greatest: i32,
-    /// Used for goals 1, 5 and 6 only and zero otherwise.
+    /// Used for goals 1 and 5 to 7 only and zero otherwise.
     pub economy_only: bool,
 }
 
@@ -96,7 +96,8 @@ pub const FIELDS: [Field; 9] = [
 ];
 
 /// 1 economy, 2 loss, 3 surface. "Goal 4 is cold surface", "goal 5 is cold
-/// economy". "Goal 6 is goal 1 with that second pass."
+/// economy". "Goal 6 is goal 1 with that second pass." Goal 7 is economy by the
+/// formula "which counts the jacket by the square metre".
 #[derive(Clone, Copy, Debug, PartialEq, Eq)]
 pub enum Goal {
     Economy = 1,
@@ -105,15 +106,17 @@ pub enum Goal {
     ColdSurface = 4,
     ColdEconomy = 5,
     LimitedEconomy = 6,
+    JacketedEconomy = 7,
 }
 
-pub const GOALS: [Goal; 6] = [
+pub const GOALS: [Goal; 7] = [
     Goal::Economy,
     Goal::Loss,
     Goal::Surface,
     Goal::ColdSurface,
     Goal::ColdEconomy,
     Goal::LimitedEconomy,
+    Goal::JacketedEconomy,
 ];
 
 /// The equation that gives a goal's need.
@@ -122,6 +125,7 @@ pub enum Method {
     Economy,
     Loss,
     Surface,
+    JacketedEconomy,
 }
 
 /// The way that heat takes through the layer: out of a hot line, or into a
@@ -139,13 +143,15 @@ impl Goal {
             Goal::Economy | Goal::ColdEconomy | Goal::LimitedEconomy => Method::Economy,
             Goal::Loss => Method::Loss,
             Goal::Surface | Goal::ColdSurface => Method::Surface,
+            Goal::JacketedEconomy => Method::JacketedEconomy,
         }
     }
 
     pub fn flow(self) -> Flow {
         match self {
-            Goal::Economy | Goal::Loss | Goal::Surface | Goal::LimitedEconomy => Flow::Outward,
+            Goal::Economy | Goal::Loss | Goal::Surface => Flow::Outward,
             Goal::ColdSurface | Goal::ColdEconomy => Flow::Inward,
+            Goal::LimitedEconomy | Goal::JacketedEconomy => Flow::Outward,
         }
     }
 }
@@ -197,7 +203,7 @@ pub enum Shape {
 /// The largest D of a cylinder.
 pub const LARGEST_CYLINDER: u16 = 10_000;
 
-/// A sheet that has passed tests 11 to 16. Letters are the paper's.
+/// A sheet that has passed tests 11 to 16 and 43. Letters are the paper's.
 #[derive(Clone, Copy, Debug)]
 pub struct Sheet {
     pub goal: Goal,
@@ -220,7 +226,7 @@ pub struct Sheet {
     pub insulation_price: u16,
     /// S
     pub yearly_share: u16,
-    /// The aim's two bytes: unsigned for goal 2, signed for goals 3 and 4.
+    /// The aim's two bytes: unsigned for goals 2 and 7, signed for goals 3 and 4.
     aim: [u8; 2],
 }
 
@@ -275,6 +281,11 @@ impl Sheet {
         i16::from_be_bytes(self.aim)
     }
 
+    /// Goal 7 has "the jacket price in yuan/m² in the aim field, 0 to 65,535".
+    pub fn jacket_price(&self) -> u16 {
+        u16::from_be_bytes(self.aim)
+    }
+
     /// "Δ = t − ta"; on a cold line "Δ becomes ta − t". Test 15 holds it above
     /// zero.
     pub fn difference(&self) -> i32 {
@@ -305,7 +316,7 @@ impl Sheet {
     }
 }
 
-// Sent back because of the sheet: tests 11 to 16.
+// Sent back because of the sheet: tests 11 to 16 and 43.
 
 /// "Tests run in this order."
 pub fn examine(sheet: &[u8]) -> Result<Sheet, Refusal> {
@@ -333,25 +344,34 @@ pub fn examine(sheet: &[u8]) -> Result<Sheet, Refusal> {
     }
     // 16: goal 2 with aim 0; goal 3 unless ta < aim < t. Goal 4 "with
     // t < aim < ta".
-    let valid_aim = match goal.method() {
-        Method::Economy => true,
+    if !valid_aim(&sheet) {
+        return Err(16);
+    }
+    // 43: "after 16, for goal 7 with D above 10,000".
+    if goal == Goal::JacketedEconomy && sheet.shape() == Shape::Flat {
+        return Err(43);
+    }
+    Ok(sheet)
+}
+
+/// Test 16: the goals that have an aim to judge.
+fn valid_aim(sheet: &Sheet) -> bool {
+    match sheet.goal.method() {
+        Method::Economy | Method::JacketedEconomy => true,
         Method::Loss => sheet.loss_aim() != 0,
         Method::Surface => {
             let from_air = sheet.from_air(sheet.surface_aim());
             0 < from_air && from_air < sheet.difference()
         }
-    };
-    if valid_aim {
-        Ok(sheet)
-    } else {
-        Err(16)
     }
 }
 
 /// "Offsets 14–21 are used for goal 1 only." "Goal 5 uses offsets 14–21 as
-/// goal 1 does", and goal 6 "is goal 1 with that second pass".
+/// goal 1 does", goal 6 "is goal 1 with that second pass", and goal 7 has
+/// "goal 1's fields".
 pub fn used(field: &Field, goal: Goal) -> bool {
-    goal.method() == Method::Economy || !field.economy_only
+    let economy = matches!(goal.method(), Method::Economy | Method::JacketedEconomy);
+    economy || !field.economy_only
 }
 
 /// Test 13: the range of an unused field does not apply.
@@ -514,12 +534,14 @@ fn root_of_quotient(numerator: u128, denominator: u128) -> Bracket {
     Bracket { lower, upper }
 }
 
-/// Need of the sheet's own goal, for goal 6 that of the first pass.
-pub fn required(sheet: &Sheet) -> Bracket {
+/// Need of the sheet's own goal, for goal 6 that of the first pass. Goal 7 has
+/// another one at each rung.
+pub fn required(sheet: &Sheet) -> Option<Bracket> {
     match sheet.goal.method() {
-        Method::Economy => required_for_economy(sheet),
-        Method::Loss => required_for_loss(sheet, sheet.loss_aim().into()),
-        Method::Surface => required_for_surface(sheet, sheet.surface_aim()),
+        Method::Economy => Some(required_for_economy(sheet)),
+        Method::Loss => Some(required_for_loss(sheet, sheet.loss_aim().into())),
+        Method::Surface => Some(required_for_surface(sheet, sheet.surface_aim())),
+        Method::JacketedEconomy => None,
     }
 }
 
@@ -528,9 +550,8 @@ fn natural(difference: i32) -> u128 {
     u128::try_from(difference).expect("a difference above zero")
 }
 
-/// Need, "economy: the square root of 14,402,025,000 × fLτΔ / (PS) on a
-/// cylinder, of 3,598,609,000 × fLτΔ / (PS) on a flat wall".
-fn required_for_economy(sheet: &Sheet) -> Bracket {
+/// 14,402,025,000 × fLτΔ on a cylinder, 3,598,609,000 × fLτΔ on a flat wall.
+fn heat_term(sheet: &Sheet) -> u128 {
     let coefficient: u128 = match sheet.shape() {
         Shape::Cylinder => 14_402_025_000,
         Shape::Flat => 3_598_609_000,
@@ -539,8 +560,14 @@ fn required_for_economy(sheet: &Sheet) -> Bracket {
         * u128::from(sheet.conductivity)
         * u128::from(sheet.hours)
         * natural(sheet.difference());
+    coefficient * heat
+}
+
+/// Need, "economy: the square root of 14,402,025,000 × fLτΔ / (PS) on a
+/// cylinder, of 3,598,609,000 × fLτΔ / (PS) on a flat wall".
+fn required_for_economy(sheet: &Sheet) -> Bracket {
     let cost = u128::from(sheet.insulation_price) * u128::from(sheet.yearly_share);
-    root_of_quotient(coefficient * heat, cost)
+    root_of_quotient(heat_term(sheet), cost)
 }
 
 /// Need, "loss: 2LΔ × 10⁵ / aim, flat LΔ × 10⁵ / aim".
@@ -557,9 +584,39 @@ fn required_for_surface(sheet: &Sheet, aim: i16) -> Bracket {
     )
 }
 
+/// A fraction.
+#[derive(Clone, Copy, Debug, PartialEq, Eq)]
+pub struct Fraction {
+    pub numerator: u128,
+    pub denominator: u128,
+}
+
+/// What the square of have is compared with at a rung of goal 7: the difference
+/// "1 − 200L / (αE)" times the square of need, which "has P + 20,000 × aim / E
+/// in place of P". None where the difference is not positive.
+///
+/// The difference is (αE − 200L) / (αE), and the square of need the heat's term
+/// × E / ((PE + 20,000 × aim) × S), so E cancels. The numerator is below
+/// 2⁸⁷ × 2²⁸, the denominator below 2¹⁴ × 2³² × 2¹⁴. Have is below 2³², being at
+/// most 2,508 mm and a film of 400 mm, and its square times the denominator is
+/// below 2¹²⁴.
+pub fn required_square(sheet: &Sheet, outer: u64) -> Option<Fraction> {
+    let (outer, coefficient) = (u128::from(outer), u128::from(sheet.coefficient));
+    let difference = (coefficient * outer).saturating_sub(200 * u128::from(sheet.conductivity));
+    if difference == 0 {
+        return None;
+    }
+    let insulation = u128::from(sheet.insulation_price) * outer;
+    let cost = insulation + 20_000 * u128::from(sheet.jacket_price());
+    Some(Fraction {
+        numerator: heat_term(sheet) * difference,
+        denominator: coefficient * cost * u128::from(sheet.yearly_share),
+    })
+}
+
 /// Meets, misses or open.
 #[derive(Clone, Copy, Debug, PartialEq, Eq)]
-enum Verdict {
+pub enum Verdict {
     Sufficient,
     Insufficient,
     Undecided,
@@ -577,19 +634,61 @@ fn judge(provided: Bracket, required: Bracket) -> Verdict {
     }
 }
 
+/// Goal 7: "A rung meets when the square of under-have is at or above that
+/// difference times the exact square of need. It misses when the square of
+/// over-have is below it." "A rung where the difference is not positive misses."
+fn judge_square(provided: Bracket, required: Option<Fraction>) -> Verdict {
+    let Some(required) = required else {
+        return Verdict::Insufficient;
+    };
+    let square = |have: u128| have * have * required.denominator;
+    if square(provided.lower) >= required.numerator {
+        Verdict::Sufficient
+    } else if square(provided.upper) < required.numerator {
+        Verdict::Insufficient
+    } else {
+        Verdict::Undecided
+    }
+}
+
+/// A rung with its have and its verdict.
+pub type Judged = (u16, Bracket, Verdict);
+
+/// The rungs from 0 up, the judge being given a rung and its have.
+fn judged<'a>(
+    sheet: &'a Sheet,
+    judge: impl Fn(u16, Bracket) -> Verdict + 'a,
+) -> impl Iterator<Item = Judged> + 'a {
+    let mut logarithm = Logarithm::from_diameter(sheet.diameter);
+    ladder().map(move |rung| {
+        let provided = provided(sheet, rung, &mut logarithm);
+        (rung, provided, judge(rung, provided))
+    })
+}
+
+/// The rungs of a sheet of goal 7 from 0 up.
+pub fn jacketed(sheet: &Sheet) -> impl Iterator<Item = Judged> + '_ {
+    judged(sheet, |rung, provided| {
+        let outer = outer_diameter(sheet.diameter, rung);
+        judge_square(provided, required_square(sheet, outer))
+    })
+}
+
 /// "The first rung that doesn't miss is the thickness if it meets." Refusal
 /// 18 if it is open, 17 if all 31 rungs miss. Have comes with the thickness.
-fn choose(sheet: &Sheet, required: Bracket) -> Result<(u16, Bracket), Refusal> {
-    let mut logarithm = Logarithm::from_diameter(sheet.diameter);
-    for rung in ladder() {
-        let provided = provided(sheet, rung, &mut logarithm);
-        match judge(provided, required) {
-            Verdict::Insufficient => {}
-            Verdict::Sufficient => return Ok((rung, provided)),
-            Verdict::Undecided => return Err(18),
-        }
+/// Above the first rung that doesn't miss none is looked at: for goal 7 such
+/// rungs "may miss again".
+fn choose(mut rungs: impl Iterator<Item = Judged>) -> Result<(u16, Bracket), Refusal> {
+    match rungs.find(|&(.., verdict)| verdict != Verdict::Insufficient) {
+        Some((rung, provided, Verdict::Sufficient)) => Ok((rung, provided)),
+        Some(_) => Err(18),
+        None => Err(17),
     }
-    Err(17)
+}
+
+/// The thickness for a need that is the same at each rung.
+fn choose_for(sheet: &Sheet, required: Bracket) -> Result<(u16, Bracket), Refusal> {
+    choose(judged(sheet, |_, provided| judge(provided, required)))
 }
 
 // The answer: 8 bytes.
@@ -764,7 +863,7 @@ fn choose_again(sheet: &Sheet, provided: Bracket) -> Result<Option<(u16, Bracket
     match loss_check(sheet, provided) {
         OVER => {
             let aim = second_aim(sheet.service, sheet.pipe_temperature).expect("a limit");
-            choose(sheet, required_for_loss(sheet, aim.into())).map(Some)
+            choose_for(sheet, required_for_loss(sheet, aim.into())).map(Some)
         }
         TOO_CLOSE => Err(18),
         _ => Ok(None),
@@ -777,7 +876,10 @@ fn choose_again(sheet: &Sheet, provided: Bracket) -> Result<Option<(u16, Bracket
 /// After a second pass "checks and bound are then those of the second rung".
 pub fn answer(sheet: &[u8]) -> Result<[u8; ANSWER_LENGTH], Refusal> {
     let sheet = examine(sheet)?;
-    let first = choose(&sheet, required(&sheet))?;
+    let first = match required(&sheet) {
+        Some(required) => choose_for(&sheet, required),
+        None => choose(jacketed(&sheet)),
+    }?;
     let second = choose_again(&sheet, first.1)?;
     let (thickness, provided) = second.unwrap_or(first);
     let mut answer = [0; ANSWER_LENGTH];

@@ -2,13 +2,14 @@
 
 mod draft;
 mod exact;
+mod jacketed;
 mod limited;
 mod near;
 mod ordinary;
 mod random;
 mod refused;
 
-pub use draft::{put, put_field, Draft};
+pub use draft::{put, put_field, shapes, Draft};
 pub use random::Random;
 
 use std::collections::VecDeque;
@@ -20,7 +21,7 @@ pub enum Family {
     Ordinary,
     /// One or more faults.
     Refused,
-    /// Have and need next to each other at some rung.
+    /// Have and need next to each other at some rung, or αE and 200L.
     Near,
 }
 
@@ -42,7 +43,7 @@ const fn kind(family: Family, name: &'static str, make: Maker) -> Kind {
 }
 
 /// Every kind, in the order in which they take turns.
-pub static KINDS: [Kind; 30] = [
+pub static KINDS: [Kind; 37] = [
     kind(Family::Ordinary, "office", ordinary::office),
     kind(Family::Ordinary, "anywhere", ordinary::anywhere),
     kind(Family::Ordinary, "diameter edge", ordinary::diameter_edge),
@@ -57,12 +58,15 @@ pub static KINDS: [Kind; 30] = [
         "beyond the ladder",
         limited::beyond_ladder,
     ),
+    kind(Family::Ordinary, "jacket price", jacketed::jacket_price),
+    kind(Family::Ordinary, "missing again", jacketed::missing_again),
     kind(Family::Refused, "wrong length", refused::wrong_length),
     kind(Family::Refused, "unknown code", refused::unknown_code),
     kind(Family::Refused, "beyond range", refused::beyond_range),
     kind(Family::Refused, "stray field", refused::stray_field),
     kind(Family::Refused, "wrong side", refused::wrong_side),
     kind(Family::Refused, "aim", refused::aim),
+    kind(Family::Refused, "jacketed wall", refused::jacketed_wall),
     kind(Family::Refused, "several faults", refused::several_faults),
     kind(Family::Refused, "any bytes", refused::any_bytes),
     kind(Family::Near, "near economy", near::economy),
@@ -77,6 +81,10 @@ pub static KINDS: [Kind; 30] = [
     kind(Family::Near, "near first check", limited::near_first_check),
     kind(Family::Near, "near second rung", limited::near_second_rung),
     kind(Family::Near, "exact limited", limited::exact),
+    kind(Family::Near, "thin difference", jacketed::thin_difference),
+    kind(Family::Near, "near jacketed", jacketed::near),
+    kind(Family::Near, "near jacketed limit", jacketed::near_limit),
+    kind(Family::Near, "exact jacketed", jacketed::exact),
 ];
 
 /// An endless run of sheets, the kinds taking turns.

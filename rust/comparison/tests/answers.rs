@@ -1,12 +1,14 @@
-//! A million sheets and more, by the proved call and by the plain one.
+//! Two million sheets, by the proved call and by the plain one.
 
 use comparison::both;
-use comparison::plain::{self, Flow, Goal, Method, Refusal, Service, Shape, Sheet};
-use comparison::sheets::{put, put_field, Draft, Sheets, KINDS};
+use comparison::plain::{
+    self, Flow, Goal, Judged, Method, Refusal, Service, Shape, Sheet, Verdict,
+};
+use comparison::sheets::{put, put_field, shapes, Draft, Sheets, KINDS};
 use std::collections::BTreeMap;
 
 const SEED: u64 = 0x6b65_6e6e_656c_6461;
-const SHEETS: usize = 1_600_000;
+const SHEETS: usize = 2_000_000;
 
 /// t at the ends of its ranges and one beyond them, with the response on a hot
 /// line and on a cold one: a refusal, or 0 for an answer. At −500 no air is
@@ -51,6 +53,21 @@ const SECOND_18: &str = "second pass 18";
 const MEETS_BY_0: &str = "second rung meets by 0 nm";
 const MEETS_BY_1: &str = "second rung meets by 1 nm";
 const BELOW_MISSES_BY_1: &str = "rung below the second misses by 1 nm";
+
+/// What the search of goal 7 passes over below its answer, and what lies above
+/// it.
+const NOT_POSITIVE: &str = "difference not positive at rung 0, answered above";
+const ZERO: &str = "difference zero at a rung below the answer";
+const MISSES_AGAIN: &str = "rung above the answer misses again";
+const MEETS_AGAIN: &str = "rung above the answer meets after one that misses";
+
+/// How many rungs above the answer are looked at.
+const ABOVE: usize = 8;
+
+/// How near have is to what goal 7 requires, at the answer and below it.
+const EXACT: &str = "meets exactly";
+const MEETS_BY_LESS: &str = "meets by less than 1 nm";
+const MISSES_BY_LESS: &str = "misses by less than 1 nm";
 
 const SEASONAL: [u16; 2] = [
     Service::Seasonal as u16,
@@ -140,6 +157,23 @@ fn second_pass(sheet: &[u8], first: [u8; 8]) -> (&'static str, Response) {
     }
 }
 
+/// Have, at a rung of goal 7, exactly as required or within a nanometre of it.
+fn edge(sheet: &Sheet, (rung, provided, verdict): Judged) -> Option<&'static str> {
+    let outer = plain::outer_diameter(sheet.diameter, rung);
+    let required = plain::required_square(sheet, outer)?;
+    let square = |have: u128| have * have * required.denominator;
+    match verdict {
+        Verdict::Sufficient if square(provided.lower) == required.numerator => Some(EXACT),
+        Verdict::Sufficient if square(provided.lower - 1) < required.numerator => {
+            Some(MEETS_BY_LESS)
+        }
+        Verdict::Insufficient if square(provided.upper + 1) >= required.numerator => {
+            Some(MISSES_BY_LESS)
+        }
+        _ => None,
+    }
+}
+
 /// How often each response came.
 #[derive(Default)]
 struct Spread(BTreeMap<Label, usize>);
@@ -167,8 +201,10 @@ impl Spread {
         match plain::examine(sheet) {
             Ok(examined) => {
                 self.count_examined(&examined, response);
-                if examined.goal == Goal::LimitedEconomy {
-                    self.count_passes(sheet, &examined, response);
+                match examined.goal {
+                    Goal::LimitedEconomy => self.count_passes(sheet, &examined, response),
+                    Goal::JacketedEconomy => self.count_jacketed(&examined, response),
+                    _ => {}
                 }
             }
             Err(number) => self.count_refused(sheet, number),
@@ -186,7 +222,7 @@ impl Spread {
         }
     }
 
-    /// Refusals 11 to 16; after 12 the goal is known.
+    /// Refusals 11 to 16 and 43; after 12 the goal is known.
     fn count_refused(&mut self, sheet: &[u8], number: Refusal) {
         self.count(("refused", number.into(), 0, 0));
         if number > 12 {
@@ -240,7 +276,7 @@ impl Spread {
     /// misses by hardly anything.
     fn count_second_edges(&mut self, sheet: &[u8], thickness: u16) {
         let sheet = plain::examine(sheet).expect("a good sheet");
-        let need = plain::required(&sheet);
+        let need = plain::required(&sheet).expect("a need");
         match plain::provided_at(&sheet, thickness).lower - need.upper {
             0 => self.count(passes_label(MEETS_BY_0, &sheet)),
             1 => self.count(passes_label(MEETS_BY_1, &sheet)),
@@ -249,6 +285,58 @@ impl Spread {
         let below = plain::provided_at(&sheet, thickness - plain::GRADE);
         if need.lower - below.upper == 1 {
             self.count(passes_label(BELOW_MISSES_BY_1, &sheet));
+        }
+    }
+
+    /// How goal 7's search ends, and what it passes over.
+    fn count_jacketed(&mut self, sheet: &Sheet, response: Response) {
+        let mut judged = plain::jacketed(sheet);
+        let mut rungs = Vec::new();
+        for rung in judged.by_ref() {
+            rungs.push(rung);
+            if rung.2 != Verdict::Insufficient {
+                break;
+            }
+        }
+        if let Ok(answer) = response {
+            self.count_jacketed_checks(sheet, answer);
+            self.count_differences(sheet, &rungs);
+            self.count_above(judged.take(ABOVE).map(|rung| rung.2));
+        }
+        for &rung in &rungs {
+            if let Some(edge) = edge(sheet, rung) {
+                self.count((edge, 0, 0, 0));
+            }
+        }
+    }
+
+    fn count_jacketed_checks(&mut self, sheet: &Sheet, answer: [u8; 8]) {
+        let (service, bare) = (sheet.service as u16, thickness_of(answer) == 0);
+        self.count(("jacketed, bare", bare.into(), 0, 0));
+        self.count(("jacketed loss check", service, answer[4].into(), 0));
+        self.count(("jacketed surface check", service, answer[5].into(), 0));
+    }
+
+    /// The verdicts on the rungs above the answer, from below.
+    fn count_above(&mut self, mut verdicts: impl Iterator<Item = Verdict>) {
+        if verdicts.any(|verdict| verdict == Verdict::Insufficient) {
+            self.count((MISSES_AGAIN, 0, 0, 0));
+            if verdicts.any(|verdict| verdict == Verdict::Sufficient) {
+                self.count((MEETS_AGAIN, 0, 0, 0));
+            }
+        }
+    }
+
+    /// αE at or below 200L at rung 0, and equal to it at a rung below the answer.
+    fn count_differences(&mut self, sheet: &Sheet, rungs: &[Judged]) {
+        let film = 200 * u64::from(sheet.conductivity);
+        let outer = |rung| plain::outer_diameter(sheet.diameter, rung);
+        let whole = |rung| u64::from(sheet.coefficient) * outer(rung);
+        if whole(0) <= film {
+            self.count((NOT_POSITIVE, 0, 0, 0));
+        }
+        if rungs.iter().any(|rung| whole(rung.0) == film) {
+            self.count((ZERO, 0, 0, 0));
         }
     }
 
@@ -294,14 +382,17 @@ fn assert_spread(spread: &Spread) {
     for number in 11..=18 {
         spread.assert_at_least(15_000, ("refused", number, 0, 0));
     }
+    assert_jacketed(spread);
     for goal in plain::GOALS {
         assert_every_refusal(spread, goal);
     }
     for shape in [Shape::Cylinder as u16, Shape::Flat as u16] {
         for goal in plain::GOALS {
-            assert_every_thickness(spread, goal, shape);
-            assert_every_sign(spread, goal, shape);
-            assert_every_aim(spread, goal, shape);
+            if shapes(goal).iter().any(|&own| own as u16 == shape) {
+                assert_every_thickness(spread, goal, shape);
+                assert_every_sign(spread, goal, shape);
+                assert_every_aim(spread, goal, shape);
+            }
         }
         for service in plain::SERVICES.map(|service| service as u16) {
             assert_every_check(spread, service, shape);
@@ -315,21 +406,32 @@ fn assert_spread(spread: &Spread) {
     }
 }
 
-/// Refusals 13 to 16, and t about the ends of its ranges.
-fn assert_every_refusal(spread: &Spread, goal: Goal) {
-    for number in 13..=15 {
-        spread.assert_at_least(2_000, ("refused for goal", number, goal as u16, 0));
+/// The refusals from 13 to 16 and 43 that a goal has. 14 holds an economy aim to
+/// zero, and goal 7 uses every field and takes every aim.
+fn refusals(goal: Goal) -> &'static [u16] {
+    match goal.method() {
+        Method::Economy => &[13, 14, 15],
+        Method::Loss | Method::Surface => &[13, 14, 15, 16],
+        Method::JacketedEconomy => &[13, 15, 43],
     }
-    if goal.method() != Method::Economy {
-        // Refusal 14 holds an economy aim to zero.
-        spread.assert_at_least(2_000, ("refused for goal", 16, goal as u16, 0));
+}
+
+/// Refusals 13 to 16 and 43, and t about the ends of its ranges.
+fn assert_every_refusal(spread: &Spread, goal: Goal) {
+    for number in [13, 14, 15, 16, 43] {
+        let label = ("refused for goal", number, goal as u16, 0);
+        if refusals(goal).contains(&number) {
+            spread.assert_at_least(2_000, label);
+        } else {
+            spread.assert_none(label);
+        }
     }
     for (place, (_, hot, cold)) in ENDS.into_iter().enumerate() {
         let response = match goal.flow() {
             Flow::Outward => hot,
             Flow::Inward => cold,
         };
-        spread.assert_at_least(500, ("end of t", goal as u16, place as u16, response));
+        spread.assert_at_least(400, ("end of t", goal as u16, place as u16, response));
     }
 }
 
@@ -414,6 +516,35 @@ fn assert_every_pass(spread: &Spread, service: u16, shape: u16) {
     }
 }
 
+/// Goal 7: bare pipes and others, both checks, differences that are not
+/// positive, rungs above the answer that miss again, and have next to what is
+/// required.
+fn assert_jacketed(spread: &Spread) {
+    for bare in [0, 1] {
+        spread.assert_at_least(20_000, ("jacketed, bare", bare, 0, 0));
+    }
+    for label in [NOT_POSITIVE, ZERO, MISSES_AGAIN, MEETS_AGAIN] {
+        spread.assert_at_least(2_000, (label, 0, 0, 0));
+    }
+    for label in [EXACT, MEETS_BY_LESS, MISSES_BY_LESS] {
+        spread.assert_at_least(200, (label, 0, 0, 0));
+    }
+    for service in plain::SERVICES.map(|service| service as u16) {
+        for code in [plain::WITHIN, plain::OVER, plain::NONE_PRINTED] {
+            let label = ("jacketed loss check", service, code.into(), 0);
+            spread.assert_at_least(2_000, label);
+        }
+        for code in [plain::WITHIN, plain::OVER] {
+            let label = ("jacketed surface check", service, code.into(), 0);
+            spread.assert_at_least(2_000, label);
+        }
+        for check in ["jacketed loss check", "jacketed surface check"] {
+            let label = (check, service, plain::TOO_CLOSE.into(), 0);
+            spread.assert_at_least(50, label);
+        }
+    }
+}
+
 /// The first rung is over the limit, so the second is never rung 0.
 fn assert_every_second_rung(spread: &Spread, shape: u16) {
     spread.assert_none(("second thickness", shape, 0, 0));
@@ -423,7 +554,7 @@ fn assert_every_second_rung(spread: &Spread, shape: u16) {
 }
 
 #[test]
-fn a_million_sheets_are_answered_alike() {
+fn two_million_sheets_are_answered_alike() {
     let mut spread = Spread::default();
     for (kind, sheet) in Sheets::new(SEED, |_| true).take(SHEETS) {
         spread.count((kind, 0, 0, 0));

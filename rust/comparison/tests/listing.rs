@@ -151,6 +151,39 @@ fn economy_respects_the_loss_limit() {
     assert_eq!(listing(sheets), HEADER.to_owned() + lines);
 }
 
+/// A pipe 50.0 °C above the air. For L 400 and α 800 twice the film is 10 mm; the
+/// loss limit needs 69 mm and the surface 16.7 mm.
+fn jacketed_pipe(line: i32, diameter: i32, heat_price: i32) -> Draft {
+    let mut draft = [0; SHEET_LENGTH];
+    draft[..2].copy_from_slice(&[7, 1]);
+    let fields = [
+        line, diameter, 700, 200, 400, 800, heat_price, 2_000, 3_795, 3_795, 3_795,
+    ];
+    for (place, value) in fields.into_iter().enumerate() {
+        put(&mut draft, LINE_OFFSET + 2 * place, value);
+    }
+    draft
+}
+
+/// With the jacket 9.7 mm are required of the bare pipe of 40 mm for a heat price
+/// of 16,000, and 10.8 mm for one of 20,000. At 10 mm have is 34.3 mm, and on a
+/// pipe of 10 mm, whose film is too thick at 0 mm, 43.0 mm.
+#[test]
+fn jackets_are_counted_on_pipes() {
+    let pipes = [
+        (1, 400, 16_000),
+        (2, 400, 20_000),
+        (3, 100, 1),
+        (4, 10_001, 1),
+    ];
+    let pipes = pipes.map(|(line, diameter, price)| jacketed_pipe(line, diameter, price));
+    let lines = "1 cylinder 0 over over 70.0\n\
+                 2 cylinder 10 over within 34.6\n\
+                 3 cylinder 10 over within 31.7\n\
+                 4 refused 43\n";
+    assert_eq!(listing(pipes.concat()), HEADER.to_owned() + lines);
+}
+
 #[test]
 fn refused_sheets_and_a_short_piece_have_their_numbers() {
     let mut unknown = wall(3, 0);

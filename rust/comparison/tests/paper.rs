@@ -1,9 +1,10 @@
-//! The figures that the papers print, and sheets of goals 4 to 6 worked by hand:
+//! The figures that the papers print, and sheets of goals 4 to 7 worked by hand:
 //! answers from both implementations, the rest from the plain one.
 
 use comparison::both;
 use comparison::plain::{
-    self, Bracket, Field, Goal, Logarithm, Refusal, Service, NONE_PRINTED, OVER, TOO_CLOSE, WITHIN,
+    self, Bracket, Field, Goal, Logarithm, Refusal, Service, Sheet, Verdict, NONE_PRINTED, OVER,
+    TOO_CLOSE, WITHIN,
 };
 use comparison::sheets::{put, Draft};
 
@@ -48,6 +49,11 @@ fn thickness(sheet: &[u8]) -> Result<u16, Refusal> {
     both::answer(sheet).map(|answer| u16::from_be_bytes([answer[2], answer[3]]))
 }
 
+/// The need that is the same at each rung.
+fn need(sheet: &Sheet) -> Bracket {
+    plain::required(sheet).expect("one need")
+}
+
 fn whole(lower: u128, upper: u128) -> Bracket {
     Bracket { lower, upper }
 }
@@ -71,9 +77,9 @@ fn sheet_f_and_its_aims() {
     let examined = plain::examine(&sheet_f(800)).unwrap();
     let have = plain::provided_at(&examined, 50);
     assert_eq!(have, whole(55_000_000, 55_000_000));
-    assert_eq!(plain::required(&examined), have);
+    assert_eq!(need(&examined), have);
     let examined = plain::examine(&sheet_f(799)).unwrap();
-    assert_eq!(plain::required(&examined), whole(55_068_836, 55_068_837));
+    assert_eq!(need(&examined), whole(55_068_836, 55_068_837));
 }
 
 #[test]
@@ -82,7 +88,7 @@ fn sheet_g_is_open_at_once() {
     let examined = plain::examine(&sheet_g()).unwrap();
     let have = plain::provided_at(&examined, 0);
     assert_eq!(have, whole(3_439_380, 3_439_381));
-    assert_eq!(plain::required(&examined), have);
+    assert_eq!(need(&examined), have);
 }
 
 #[test]
@@ -239,12 +245,12 @@ fn a_cold_wall() {
     let examined = plain::examine(&wall).unwrap();
     let have = plain::provided_at(&examined, 20);
     assert_eq!(have, whole(25_000_000, 25_000_000));
-    assert_eq!(plain::required(&examined), have);
+    assert_eq!(need(&examined), have);
 
     let wall = cold_wall(-300, 200, 101);
     assert_eq!(both::answer(&wall), cold_answer(30, 200 - 72));
     let examined = plain::examine(&wall).unwrap();
-    assert_eq!(plain::required(&examined), whole(25_252_525, 25_252_526));
+    assert_eq!(need(&examined), whole(25_252_525, 25_252_526));
 }
 
 /// "A signed temperature near zero behaves like every other": the same wall
@@ -279,7 +285,7 @@ fn a_cold_wall_is_open_at_once() {
     assert_eq!(thickness(&wall), Err(18));
     let examined = plain::examine(&wall).unwrap();
     assert_eq!(plain::provided_at(&examined, 0), whole(1_000, 1_000));
-    assert_eq!(plain::required(&examined), whole(1_000, 1_001));
+    assert_eq!(need(&examined), whole(1_000, 1_001));
 }
 
 /// The film is 10 mm and Δ / s is 14. 180 × ln 1.8 is 105.8 mm and 200 × ln 2
@@ -297,14 +303,14 @@ fn a_cold_pipe() {
 fn a_cold_wall_for_economy() {
     assert_eq!(both::answer(&cold_economy(1_000)), cold_answer(20, 100));
     let examined = plain::examine(&cold_economy(1_000)).unwrap();
-    assert_eq!(plain::required(&examined), whole(25_000_000, 25_000_000));
+    assert_eq!(need(&examined), whole(25_000_000, 25_000_000));
 
     assert_eq!(
         both::answer(&cold_economy(1_001)),
         cold_answer(30, 200 - 72)
     );
     let examined = plain::examine(&cold_economy(1_001)).unwrap();
-    assert_eq!(plain::required(&examined), whole(25_012_496, 25_012_497));
+    assert_eq!(need(&examined), whole(25_012_496, 25_012_497));
 }
 
 /// "Never below t": f and τ of 1 leave the wall bare. With α 700 under-have is
@@ -354,7 +360,13 @@ fn ends_of_the_pipe_temperature() {
         assert_eq!(at(draft, 6_500), Some(15));
         assert_eq!(at(draft, 6_501), Some(13));
     }
-    for (goal, draft) in [(1, economy), (2, cold), (3, cold), (6, economy)] {
+    for (goal, draft) in [
+        (1, economy),
+        (2, cold),
+        (3, cold),
+        (6, economy),
+        (7, economy),
+    ] {
         let mut hot = with(draft, plain::AIR_TEMPERATURE.offset, -500);
         hot[plain::GOAL_OFFSET] = goal;
         for pipe in [-1_961, -1_960, -501] {
@@ -629,6 +641,233 @@ fn limited_fields() {
     }
 }
 
+// Sheets of goal 7. L 400 and α 800 make twice the film 10 mm on a pipe of
+// 40 mm: the difference is 3/4 at 0 mm, 5/6 at 10, 7/8 at 20, 9/10 at 30.
+
+/// P and S are the coefficient itself, Δ is 500 and τ 2,000, so that the square
+/// of need is 4×10¹¹ × f / (1 + 20,000/E × aim/3,795).
+fn jacketed(heat_price: i32, jacket_price: i32) -> Draft {
+    let fields = [
+        16,
+        400,
+        700,
+        200,
+        400,
+        800,
+        heat_price,
+        2_000,
+        3_795,
+        3_795,
+        jacket_price,
+    ];
+    sheet([7, 1], fields)
+}
+
+fn pipe_answer(rung: u8, checks: [u8; 2], bound: i16) -> Result<[u8; 8], Refusal> {
+    let [c, d] = bound.to_be_bytes();
+    Ok([0, 1, 0, rung, checks[0], checks[1], c, d])
+}
+
+/// At 0 mm the square of need is 6.8×10¹⁵ / 51, and 3/4 of it is 10¹⁴, the square
+/// of 10 mm. At 10 mm have is 60 × ln 1.5 + 10 = 34.33 mm and the quotient of the
+/// bound 5,000 / 34.33 = 145.7. The loss limit needs 69 mm and the surface
+/// 16.7 mm.
+#[test]
+fn a_jacketed_pipe_meets_by_nothing() {
+    let pipe = jacketed(17_000, 3_795);
+    assert_eq!(both::answer(&pipe), pipe_answer(0, [OVER, OVER], 700));
+    let insulated = pipe_answer(10, [OVER, WITHIN], 200 + 146);
+    assert_eq!(both::answer(&jacketed(17_001, 3_795)), insulated);
+    assert_eq!(both::answer(&jacketed(17_000, 3_794)), insulated);
+    let others = [
+        (plain::HOURS, 2_001),
+        (plain::INSULATION_PRICE, 3_794),
+        (plain::YEARLY_SHARE, 3_794),
+        (plain::PIPE_TEMPERATURE, 701),
+    ];
+    for (field, value) in others {
+        let pipe = with(pipe, field.offset, value);
+        assert_eq!(thickness(&pipe), Ok(10), "offset {}", field.offset);
+    }
+}
+
+/// Without a jacket need is 82.5 mm. At 20 mm have is 80 × ln 2 + 10 = 65.5 mm
+/// where 77.1 is required, 63.8 for a jacket of 70 yuan/m² and 66.9 for one of
+/// 50. At 30 mm have is 100 × ln 2.5 + 10 = 101.6. The price has no sign.
+#[test]
+fn prices_of_the_jacket() {
+    for (price, rung) in [(0, 30), (50, 30), (70, 20), (3_795, 0), (65_535, 0)] {
+        let pipe = jacketed(17_000, price);
+        assert_eq!(thickness(&pipe), Ok(rung), "{price} yuan/m²");
+    }
+}
+
+/// On a pipe of 10 mm have is more than enough at 0 mm, but the difference is 0
+/// there, and below 0 for a smaller α. It is 2/3 at 10 mm.
+#[test]
+fn a_difference_that_is_not_positive() {
+    let pipe = with(jacketed(1, 3_795), plain::DIAMETER.offset, 100);
+    for (coefficient, rung) in [(799, 10), (800, 10), (801, 0)] {
+        let pipe = with(pipe, plain::COEFFICIENT.offset, coefficient);
+        assert_eq!(thickness(&pipe), Ok(rung), "α {coefficient}");
+    }
+}
+
+/// Twice the film is 400 mm, and the square of need 8×10¹³ × f at every rung.
+fn poorly_insulated(diameter: i32, heat_price: i32) -> Draft {
+    let fields = [
+        17, diameter, 5_200, 200, 2_000, 100, heat_price, 8_000, 3_795, 3_795, 0,
+    ];
+    sheet([7, 1], fields)
+}
+
+/// Need is 2,000 mm. Where E is 410 mm the difference is 1/41 and 312 mm are
+/// required, less than the film alone. Where it is 430 mm 528 mm are required,
+/// and on a pipe of 390 mm have is 442 mm then; at 300 mm 1,544 and 1,322. The
+/// quotient is 2,000,000 / 420.5 = 4,756.2.
+#[test]
+fn rungs_that_miss_again() {
+    let responses = [
+        (3_700, Ok(20)),
+        (3_900, Ok(10)),
+        (4_100, Ok(0)),
+        (4_300, Err(17)),
+    ];
+    for (diameter, response) in responses {
+        let pipe = poorly_insulated(diameter, 50_000);
+        assert_eq!(thickness(&pipe), response, "D {diameter}");
+    }
+    let pipe = poorly_insulated(3_900, 50_000);
+    let expected = pipe_answer(10, [OVER, OVER], 200 + 4_757);
+    assert_eq!(both::answer(&pipe), expected);
+    assert_eq!(meeting(&pipe), [10]);
+}
+
+/// Need is 1,700 mm. At 10 mm 266 mm are required, at 20 mm 449; at 290 mm 1,303,
+/// have being 1,284, and at 300 mm 1,312 of 1,322.
+#[test]
+fn a_rung_that_meets_again() {
+    let pipe = poorly_insulated(3_900, 36_125);
+    assert_eq!(thickness(&pipe), Ok(10));
+    assert_eq!(meeting(&pipe), [10, 300]);
+}
+
+fn meeting(pipe: &Draft) -> Vec<u16> {
+    let examined = plain::examine(pipe).unwrap();
+    let rungs = plain::jacketed(&examined);
+    let meeting = rungs.filter(|&(.., verdict)| verdict == Verdict::Sufficient);
+    meeting.map(|(rung, ..)| rung).collect()
+}
+
+/// Have at 0 mm is 80/7 mm. With P 10 times, and the jacket's price 4 times, the
+/// coefficient the square of need is 6.4×10¹⁵ / 35, and 5/7 of it is the square
+/// of have.
+#[test]
+fn a_jacketed_pipe_is_open() {
+    let pipe = |heat_price| {
+        let pipe = with(jacketed(heat_price, 15_180), plain::HOURS.offset, 4_000);
+        let pipe = with(pipe, plain::INSULATION_PRICE.offset, 37_950);
+        with(pipe, plain::COEFFICIENT.offset, 700)
+    };
+    let examined = plain::examine(&pipe(48_000)).unwrap();
+    let have = plain::provided_at(&examined, 0);
+    assert_eq!(have, whole(11_428_571, 11_428_572));
+    assert_eq!(thickness(&pipe(47_999)), Ok(0));
+    assert_eq!(thickness(&pipe(48_000)), Err(18));
+    assert_eq!(thickness(&pipe(48_001)), Ok(10));
+}
+
+/// Have at 0 mm is 2×10⁷ / 9,999, a little above 2,000 nm. P + 50 × aim is
+/// 25 × 19,997, and the difference 19,997 / 19,998: so the square of what is
+/// required is 2,001² × f / 2,929. 2,000² lies between f 2,926 and 2,927.
+#[test]
+fn a_jacketed_pipe_is_open_up_to_its_over_have() {
+    let pipe = |heat_price| {
+        let fields = [
+            18, 400, 209, 200, 1, 9_999, heat_price, 29, 49_925, 5_500, 9_000,
+        ];
+        sheet([7, 1], fields)
+    };
+    let responses = [
+        (2_926, Ok(0)),
+        (2_927, Err(18)),
+        (2_929, Err(18)),
+        (2_930, Ok(10)),
+    ];
+    for (heat_price, response) in responses {
+        assert_eq!(thickness(&pipe(heat_price)), response, "f {heat_price}");
+    }
+}
+
+/// The checks and the bound go by the undivided have: 34.33 mm, where the
+/// divided one is 37.61. For a Δ of 1,080 the surface limit needs 36 mm; for one
+/// of 733 the seasonal loss limit needs 35.98 mm and the surface limit 31.5. The
+/// quotients are 10,800 / 34.33 = 314.6 and 7,330 / 34.33 = 213.5.
+#[test]
+fn checks_by_the_undivided_have() {
+    let pipe = with(
+        jacketed(17_000, 3_795),
+        plain::PIPE_TEMPERATURE.offset,
+        1_280,
+    );
+    let expected = pipe_answer(10, [OVER, OVER], 200 + 315);
+    assert_eq!(both::answer(&pipe), expected);
+
+    let mut seasonal = with(pipe, plain::PIPE_TEMPERATURE.offset, 1_000);
+    put(&mut seasonal, plain::AIR_TEMPERATURE.offset, 267);
+    seasonal[plain::SERVICE_OFFSET] = Service::Seasonal as u8;
+    let expected = pipe_answer(10, [OVER, WITHIN], 267 + 214);
+    assert_eq!(both::answer(&seasonal), expected);
+}
+
+/// "43, after 16, for goal 7 with D above 10,000", also where every rung of a
+/// pipe misses.
+#[test]
+fn a_jacket_on_a_wall() {
+    let cheap = jacketed(1, 0);
+    let dear = with(jacketed(65_535, 0), plain::YEARLY_SHARE.offset, 1);
+    for (pipe, response) in [(cheap, Ok(0)), (dear, Err(17))] {
+        let at = |diameter| thickness(&with(pipe, plain::DIAMETER.offset, diameter));
+        assert_eq!(at(10_000), response);
+        for diameter in [10_001, 10_002, 32_768, 65_535] {
+            assert_eq!(at(diameter), Err(43), "D {diameter}");
+        }
+    }
+}
+
+/// "beside goal 1's fields ... the jacket price in yuan/m² in the aim field, 0 to
+/// 65,535"
+#[test]
+fn jacketed_fields() {
+    let pipe = jacketed(1, 3_795);
+    for price in [0, 1, 255, 256, 32_767, 32_768, 65_535] {
+        let pipe = with(pipe, plain::AIM_OFFSET, price);
+        assert_eq!(thickness(&pipe), Ok(0), "{price} yuan/m²");
+    }
+    for field in plain::FIELDS.into_iter().filter(|field| field.economy_only) {
+        let zero = with(pipe, field.offset, 0);
+        assert_eq!(thickness(&zero), Err(13), "offset {}", field.offset);
+    }
+    for range in COMMON.into_iter().skip(1).chain(ECONOMY_ONLY) {
+        assert_ends(pipe, range);
+    }
+    let at = |diameter| thickness(&with(pipe, plain::DIAMETER.offset, diameter)).err();
+    let diameters = [99, 100, 10_000, 10_001, 65_535];
+    let expected = [Some(13), None, None, Some(43), Some(43)];
+    assert_eq!(diameters.map(at), expected);
+    for air in [-500, -1, 0, 1, 500] {
+        for below in [0, 1] {
+            let pipe = with(pipe, plain::AIR_TEMPERATURE.offset, air);
+            let pipe = with(
+                pipe,
+                plain::PIPE_TEMPERATURE.offset,
+                (air - below).max(-500),
+            );
+            assert_eq!(thickness(&pipe), Err(15), "ta {air}");
+        }
+    }
+}
+
 #[test]
 fn goals() {
     for code in 0..=u8::MAX {
@@ -636,8 +875,8 @@ fn goals() {
         draft[plain::GOAL_OFFSET] = code;
         let expected = match code {
             4 => Ok(20),
-            // The other five miss a price or have t on the wrong side.
-            1 | 5 | 6 => Err(13),
+            // The other six miss a price or have t on the wrong side.
+            1 | 5..=7 => Err(13),
             2 | 3 => Err(15),
             _ => Err(12),
         };
@@ -645,8 +884,8 @@ fn goals() {
     }
 }
 
-/// A wall that is answered, for each goal. The air is at 20.0 °C.
-fn good_wall(goal: Goal) -> Draft {
+/// A sheet that is answered, for each goal. The air is at 20.0 °C.
+fn good_sheet(goal: Goal) -> Draft {
     let surface = [15, 12_000, 1_300, 200, 400, 800, 0, 0, 0, 0, 400];
     match goal {
         Goal::Economy => with(economy(12_000), plain::AIR_TEMPERATURE.offset, 200),
@@ -655,26 +894,28 @@ fn good_wall(goal: Goal) -> Draft {
         Goal::ColdSurface => cold_wall(-300, 200, 100),
         Goal::ColdEconomy => cold_economy(1_000),
         Goal::LimitedEconomy => limited(1, (1_300, 200), (400, 500), 4_400),
+        Goal::JacketedEconomy => jacketed(17_000, 3_795),
     }
 }
 
-/// A fault for each refusal from 12 to 16 that the goal can have: its number,
-/// an offset and the value put there. The service becomes 0, α 99, an unused
-/// field or an economy aim 1, t becomes ta, a loss aim 0, a surface aim ta.
+/// A fault for each refusal from 12 to 16 and 43 that the goal can have: its
+/// number, an offset and the value put there. The service becomes 0, α 99, an
+/// unused field or an economy aim 1, t becomes ta, a loss aim 0, a surface aim
+/// ta, and a jacket comes on a wall.
 fn faults(goal: Goal) -> Vec<(Refusal, usize, i32)> {
-    let aim = plain::AIM_OFFSET;
-    let (stray, wrong_aim) = match goal {
-        Goal::Economy | Goal::ColdEconomy | Goal::LimitedEconomy => (aim, None),
-        Goal::Loss => (plain::HEAT_PRICE.offset, Some((16, aim, 0))),
-        Goal::Surface | Goal::ColdSurface => (plain::HEAT_PRICE.offset, Some((16, aim, 200))),
-    };
+    let (heat, aim) = (plain::HEAT_PRICE.offset, plain::AIM_OFFSET);
     let mut faults = vec![
         (12, plain::GOAL_OFFSET, (goal as i32) << 8),
         (13, plain::COEFFICIENT.offset, 99),
-        (14, stray, 1),
         (15, plain::PIPE_TEMPERATURE.offset, 200),
     ];
-    faults.extend(wrong_aim);
+    faults.extend(match goal {
+        Goal::Economy | Goal::ColdEconomy | Goal::LimitedEconomy => vec![(14, aim, 1)],
+        Goal::Loss => vec![(14, heat, 1), (16, aim, 0)],
+        Goal::Surface | Goal::ColdSurface => vec![(14, heat, 1), (16, aim, 200)],
+        Goal::JacketedEconomy => vec![(43, plain::DIAMETER.offset, 10_001)],
+    });
+    faults.sort();
     faults
 }
 
@@ -685,7 +926,7 @@ fn the_first_of_several_faults() {
     for goal in plain::GOALS {
         let faults = faults(goal);
         for choice in 0..1 << faults.len() {
-            let mut draft = good_wall(goal);
+            let mut draft = good_sheet(goal);
             let mut first = None;
             for (place, &(number, offset, value)) in faults.iter().enumerate() {
                 if choice >> place & 1 == 1 {

@@ -34,13 +34,21 @@ pub fn goal_of(draft: &Draft) -> Goal {
     goal.expect("a known goal")
 }
 
-/// The draft as a sheet, if it passes tests 11 to 16.
+/// The draft as a sheet, if it passes tests 11 to 16 and 43.
 pub fn sheet_of(draft: &Draft) -> Option<Sheet> {
     plain::examine(draft).ok()
 }
 
-/// Every goal with every shape and service. A cold goal has two services each
-/// time: its answer does not depend on the service.
+/// Goal 7 is for cylinders.
+pub fn shapes(goal: Goal) -> &'static [Shape] {
+    match goal {
+        Goal::JacketedEconomy => &[Shape::Cylinder],
+        _ => &[Shape::Cylinder, Shape::Flat],
+    }
+}
+
+/// Every goal with every service and each of its shapes. A cold goal has two
+/// services each time: its answer does not depend on the service.
 pub fn every_sort(random: &mut Random) -> Vec<(Goal, Service, Shape)> {
     let mut sorts = Vec::new();
     for goal in plain::GOALS {
@@ -49,7 +57,7 @@ pub fn every_sort(random: &mut Random) -> Vec<(Goal, Service, Shape)> {
             Flow::Inward => vec![random.pick(&plain::SERVICES), random.pick(&plain::SERVICES)],
         };
         for service in services {
-            sorts.extend([Shape::Cylinder, Shape::Flat].map(|shape| (goal, service, shape)));
+            sorts.extend(shapes(goal).iter().map(|&shape| (goal, service, shape)));
         }
     }
     sorts
@@ -58,12 +66,20 @@ pub fn every_sort(random: &mut Random) -> Vec<(Goal, Service, Shape)> {
 /// Economy of hot lines, of cold ones and within the loss limit.
 pub const ECONOMY: [Goal; 3] = [Goal::Economy, Goal::ColdEconomy, Goal::LimitedEconomy];
 
+/// These, and economy with the price of the jacket.
+pub const PRICED: [Goal; 4] = [
+    Goal::Economy,
+    Goal::ColdEconomy,
+    Goal::LimitedEconomy,
+    Goal::JacketedEconomy,
+];
+
 /// The surface of hot lines and of cold ones.
 pub const SURFACE: [Goal; 2] = [Goal::Surface, Goal::ColdSurface];
 
 fn sort_of(random: &mut Random, goal: Goal) -> (Goal, Service, Shape) {
     let service = random.pick(&plain::SERVICES);
-    (goal, service, random.pick(&[Shape::Cylinder, Shape::Flat]))
+    (goal, service, random.pick(shapes(goal)))
 }
 
 pub fn any_sort(random: &mut Random) -> (Goal, Service, Shape) {
@@ -78,6 +94,7 @@ pub fn any_hot_sort(random: &mut Random) -> (Goal, Service, Shape) {
         Goal::Loss,
         Goal::Surface,
         Goal::LimitedEconomy,
+        Goal::JacketedEconomy,
     ]);
     sort_of(random, goal)
 }
@@ -141,11 +158,23 @@ pub fn get_temperatures(draft: &Draft) -> (i32, i32) {
     (pipe, get_field(draft, plain::AIR_TEMPERATURE))
 }
 
-/// Puts an aim that passes test 16, if there is one, or zero for economy.
+/// A jacket's price of any size.
+pub fn any_jacket_price(random: &mut Random) -> i32 {
+    match random.below(8) {
+        0 => 0,
+        1 => random.pick(&[1, 255, 256, 32_767, 32_768, 65_534, 65_535]),
+        2 => random.between(0, 65_535),
+        _ => random.low_between(0, 65_535),
+    }
+}
+
+/// Puts an aim that passes test 16, if there is one, a jacket's price, or zero
+/// for economy without it.
 pub fn put_any_aim(random: &mut Random, draft: &mut Draft) {
     let goal = goal_of(draft);
     let aim = match goal.method() {
         Method::Economy => 0,
+        Method::JacketedEconomy => any_jacket_price(random),
         Method::Loss => random.low_between(1, 65_535),
         Method::Surface => {
             let (pipe, air) = get_temperatures(draft);
@@ -157,7 +186,8 @@ pub fn put_any_aim(random: &mut Random, draft: &mut Draft) {
     put(draft, plain::AIM_OFFSET, aim);
 }
 
-/// A sheet that passes tests 11 to 16, its fields anywhere in their ranges.
+/// A sheet that passes tests 11 to 16 and 43, its fields anywhere in their
+/// ranges.
 pub fn any_draft(random: &mut Random, (goal, service, shape): (Goal, Service, Shape)) -> Draft {
     let mut draft = [0; plain::SHEET_LENGTH];
     draft[plain::GOAL_OFFSET] = goal as u8;

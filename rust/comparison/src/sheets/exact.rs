@@ -220,7 +220,7 @@ fn economy_draft(random: &mut Random, goal: Goal, shape: Shape) -> Option<Draft>
 }
 
 /// Puts f, τ and Δ of the given product.
-fn put_factors(random: &mut Random, draft: &mut Draft, product: i64) -> Option<()> {
+pub fn put_factors(random: &mut Random, draft: &mut Draft, product: i64) -> Option<()> {
     let goal = goal_of(draft);
     for _ in 0..100 {
         let least = random.pick(&[1, 50, 1_000]);
@@ -278,7 +278,11 @@ fn bare_loss(random: &mut Random, shape: Shape) -> Draft {
 /// A pipe just above the surface limit in cold air, with so little have that
 /// a nanometre decides, and so cheap a heat that it stays bare.
 fn bare_at_surface_limit(random: &mut Random, shape: Shape) -> Draft {
-    let mut draft = cheap(random, Goal::Economy, shape);
+    let goal = match shape {
+        Shape::Cylinder => random.pick(&[Goal::Economy, Goal::JacketedEconomy]),
+        Shape::Flat => Goal::Economy,
+    };
+    let mut draft = cheap(random, goal, shape);
     let air = random.between(plain::AIR_TEMPERATURE.least, -200);
     put_temperatures(&mut draft, (500 + random.between(1, 2), air));
     put_least_film(random, &mut draft);

@@ -57,7 +57,7 @@ fn beyond(random: &mut Random) -> Option<Draft> {
 }
 
 /// The loss to which have is brought near: the limit, or a second aim.
-type Loss = fn(Service, i16) -> Option<u16>;
+pub type Loss = fn(Service, i16) -> Option<u16>;
 
 /// Have next to the need at the limit, at the rung that the first pass finds.
 pub fn near_first_check(random: &mut Random, sheets: &mut Batch) {
@@ -110,7 +110,7 @@ fn any_row(random: &mut Random) -> i32 {
 
 /// Puts an L that suits the rung, and the air's temperature and the α that
 /// bring have and need nearest to each other.
-fn put_near(random: &mut Random, draft: &mut Draft, rung: u16, loss: Loss) -> Option<()> {
+pub fn put_near(random: &mut Random, draft: &mut Draft, rung: u16, loss: Loss) -> Option<()> {
     let pipe = any_pipe(random);
     let air = plain::AIR_TEMPERATURE;
     put_temperatures(draft, (pipe, air.least));

@@ -38,14 +38,14 @@ pub fn setting(random: &mut Random, goal: Goal) -> Draft {
 /// that is off by a part of itself leaves them apart by that part of the
 /// weight, in nanometres. The nearest whole number has to be in the range.
 pub struct Fit {
-    value: f64,
-    weight: f64,
-    range: (i32, i32),
+    pub value: f64,
+    pub weight: f64,
+    pub range: (i32, i32),
 }
 
 impl Fit {
     /// The whole number and how far it leaves have from need.
-    fn rounded(&self) -> Option<(i32, f64)> {
+    pub fn rounded(&self) -> Option<(i32, f64)> {
         let whole = self.value.round() as i32;
         let distance = self.weight * (self.value - f64::from(whole)).abs() / f64::from(whole);
         (self.range.0..=self.range.1)
@@ -55,7 +55,7 @@ impl Fit {
 }
 
 /// A window of the sheet's possible Δ, from the least one up.
-fn any_window(random: &mut Random, sheet: &Sheet, least: i32) -> Range<i32> {
+pub fn any_window(random: &mut Random, sheet: &Sheet, least: i32) -> Range<i32> {
     let air = sheet.air_temperature.into();
     let beyond = largest_difference(sheet.goal.flow(), air) + 1;
     let start = random.between(least, least.max(beyond - WINDOW));
@@ -75,13 +75,13 @@ pub fn nearest(window: Range<i32>, fit: impl Fn(i32) -> Fit) -> Option<(i32, i32
 
 /// One of the figures that have may be compared by, as a float. It only
 /// chooses the sheet.
-fn any_figure(random: &mut Random, have: Bracket) -> f64 {
+pub fn any_figure(random: &mut Random, have: Bracket) -> f64 {
     let middle = (have.lower + have.upper) / 2;
     random.pick(&[have.lower, have.upper, middle]) as f64
 }
 
 /// Puts the pipe's temperature that gives a Δ.
-fn put_difference(draft: &mut Draft, sheet: &Sheet, difference: i32) {
+pub fn put_difference(draft: &mut Draft, sheet: &Sheet, difference: i32) {
     let pipe = sheet.temperature_at(difference).into();
     put_field(draft, plain::PIPE_TEMPERATURE, pipe);
 }
@@ -306,18 +306,25 @@ fn near_loss_limit(random: &mut Random) -> Option<Draft> {
     Some(draft)
 }
 
-/// The α for which the layer keeps the surface at its limit: layer × s is
-/// film × (Δ − s).
+/// The α for which the layer keeps the surface at its limit, at a Δ: layer × s
+/// is film × (Δ − s).
+pub fn surface_fit(sheet: &Sheet, difference: i32, limit: i32, layer: f64) -> Fit {
+    let beyond = f64::from(difference - limit);
+    Fit {
+        value: conductivity(sheet) * 1e7 * beyond / (f64::from(limit) * layer),
+        weight: layer,
+        range: COEFFICIENTS,
+    }
+}
+
+/// The α for which need at the limit is have.
 fn near_surface_limit(random: &mut Random) -> Option<Draft> {
     let (mut draft, sheet, layer) = layer(random, Goal::Surface);
     let limit = sheet.from_air(plain::surface_limit(sheet.air_temperature));
     let aim = limit + random.between(1, 20);
     let window = any_window(random, &sheet, aim + 1);
-    let (difference, coefficient) = nearest(window, |difference| Fit {
-        value: conductivity(&sheet) * 1e7 * f64::from(difference - limit)
-            / (f64::from(limit) * layer),
-        weight: layer,
-        range: COEFFICIENTS,
+    let (difference, coefficient) = nearest(window, |difference| {
+        surface_fit(&sheet, difference, limit, layer)
     })?;
     put_difference(&mut draft, &sheet, difference);
     put_field(&mut draft, plain::COEFFICIENT, coefficient);

@@ -2,7 +2,7 @@
 
 use super::draft::{
     any_draft, any_hot_sort, any_sort, diameters, ends, every_sort, get_temperatures, goal_of, put,
-    put_any_aim, put_field, put_temperatures, Draft, ECONOMY,
+    put_any_aim, put_field, put_temperatures, shapes, Draft, PRICED,
 };
 use super::{Batch, Random};
 use crate::plain::{self, Field, Flow, Goal, Method, Service, Shape};
@@ -57,6 +57,7 @@ fn office_temperatures(random: &mut Random, flow: Flow) -> (i32, i32) {
 fn office_aim(random: &mut Random, goal: Goal, (pipe, air): (i32, i32)) -> i32 {
     match goal {
         Goal::Economy | Goal::ColdEconomy | Goal::LimitedEconomy => 0,
+        Goal::JacketedEconomy => random.between(20, 300),
         Goal::Loss => random.between(400, 3_000),
         Goal::Surface => random.between(400.max(air + 80), 590),
         Goal::ColdSurface => random.between((air - 80).max(pipe + 1), air - 10),
@@ -119,7 +120,7 @@ pub fn end_of_range(random: &mut Random, sheets: &mut Batch) {
         for (value, _) in ends(field) {
             let (mut goal, service, shape) = any_sort(random);
             if field.economy_only {
-                goal = random.pick(&ECONOMY);
+                goal = random.pick(&PRICED);
             }
             let mut draft = any_draft(random, (goal, service, shape));
             put_field(&mut draft, field, value);
@@ -144,7 +145,7 @@ fn keep_apart(draft: &mut Draft, changed: Field) {
 /// Temperatures about zero, for every goal.
 pub fn about_zero(random: &mut Random, sheets: &mut Batch) {
     for goal in plain::GOALS {
-        for shape in [Shape::Cylinder, Shape::Flat] {
+        for &shape in shapes(goal) {
             let service = random.pick(&plain::SERVICES);
             let mut draft = any_draft(random, (goal, service, shape));
             put_about_zero(random, &mut draft);
@@ -173,11 +174,12 @@ fn put_about_zero(random: &mut Random, draft: &mut Draft) {
     }
 }
 
-/// Economy with the largest products below the root. The prices of the layer
-/// are high as well, so that a rung is found.
+/// Economy with the largest products below the root. The prices of the layer,
+/// with its jacket, are high as well, so that a rung is found.
 pub fn widest_product(random: &mut Random, sheets: &mut Batch) {
-    let (_, service, shape) = any_sort(random);
-    for goal in ECONOMY {
+    let service = random.pick(&plain::SERVICES);
+    for goal in PRICED {
+        let shape = random.pick(shapes(goal));
         let mut draft = any_draft(random, (goal, service, shape));
         let others = [
             plain::CONDUCTIVITY,
@@ -189,6 +191,10 @@ pub fn widest_product(random: &mut Random, sheets: &mut Batch) {
         for field in others {
             let least = field.greatest - field.greatest / 12;
             put_field(&mut draft, field, random.between(least, field.greatest));
+        }
+        if goal == Goal::JacketedEconomy {
+            let price = random.between(60_000, 65_535);
+            put(&mut draft, plain::AIM_OFFSET, price);
         }
         put_temperatures(&mut draft, far_apart(random, goal.flow()));
         sheets.push(draft.to_vec());

@@ -1,11 +1,11 @@
 //! Sheets with faults, and sheets just inside the faults.
 
 use super::draft::{
-    any_draft, any_sort, ends, get_temperatures, goal_of, put, put_field, put_temperatures, Draft,
-    ECONOMY,
+    any_draft, any_sort, diameters, ends, get_temperatures, goal_of, put, put_any_aim, put_field,
+    put_temperatures, Draft, PRICED,
 };
 use super::{Batch, Random};
-use crate::plain::{self, Field, Flow, Method};
+use crate::plain::{self, Field, Flow, Goal, Method, Shape};
 
 /// Lengths other than 24, and 24 now and then.
 pub fn wrong_length(random: &mut Random, sheets: &mut Batch) {
@@ -45,6 +45,25 @@ pub fn aim(random: &mut Random, sheets: &mut Batch) {
     faulty(random, sheets, 8, put_aim);
 }
 
+/// A jacket on a wall: alone, with a second fault or with an aim of its own.
+pub fn jacketed_wall(random: &mut Random, sheets: &mut Batch) {
+    let others: [Fault; 5] = [
+        put_unknown_code,
+        put_beyond_range,
+        put_wrong_side,
+        put_any_aim,
+        put_wall,
+    ];
+    for _ in 0..4 {
+        let service = random.pick(&plain::SERVICES);
+        let sort = (Goal::JacketedEconomy, service, Shape::Cylinder);
+        let mut draft = any_draft(random, sort);
+        put_wall(random, &mut draft);
+        others[random.below(others.len())](random, &mut draft);
+        sheets.push(draft.to_vec());
+    }
+}
+
 /// Each field one beyond its range, and one field anywhere beyond. t is one
 /// below the least of hot lines and one below that of cold ones, whatever the
 /// goal.
@@ -55,7 +74,7 @@ pub fn beyond_range(random: &mut Random, sheets: &mut Batch) {
             if representable(field, value) {
                 let (mut goal, service, shape) = any_sort(random);
                 if field.economy_only {
-                    goal = random.pick(&ECONOMY);
+                    goal = random.pick(&PRICED);
                 }
                 let mut draft = any_draft(random, (goal, service, shape));
                 put_field(&mut draft, field, value);
@@ -68,18 +87,19 @@ pub fn beyond_range(random: &mut Random, sheets: &mut Batch) {
 
 /// Up to three faults at once: the first listed one counts.
 pub fn several_faults(random: &mut Random, sheets: &mut Batch) {
-    let faults: [Fault; 5] = [
+    let faults: [Fault; 6] = [
         put_unknown_code,
         put_beyond_range,
         put_stray_field,
         put_wrong_side,
         put_aim,
+        put_wall,
     ];
     for _ in 0..8 {
         let sort = any_sort(random);
         let mut draft = any_draft(random, sort);
         // The goal is read by some faults, so an unknown one comes last.
-        let mut chosen: Vec<usize> = (0..random.between(2, 3)).map(|_| random.below(5)).collect();
+        let mut chosen: Vec<usize> = (0..random.between(2, 3)).map(|_| random.below(6)).collect();
         chosen.sort_by(|first, second| second.cmp(first));
         for fault in chosen {
             faults[fault](random, &mut draft);
@@ -147,7 +167,7 @@ fn put_beyond_range(random: &mut Random, draft: &mut Draft) {
     }
 }
 
-/// One byte, or both, of a field that has to be zero.
+/// One byte, or both, of a field that has to be zero. Goal 7 has no such field.
 fn put_stray_field(random: &mut Random, draft: &mut Draft) {
     let value = match random.below(3) {
         0 => random.between(1, 255),
@@ -162,7 +182,9 @@ fn put_stray_field(random: &mut Random, draft: &mut Draft) {
     if goal.method() == Method::Economy {
         offsets.push(plain::AIM_OFFSET);
     }
-    put(draft, random.pick(&offsets), value);
+    if !offsets.is_empty() {
+        put(draft, random.pick(&offsets), value);
+    }
 }
 
 /// t at ta, a tenth on the wrong side of it, or anywhere there.
@@ -182,13 +204,22 @@ fn put_wrong_side(random: &mut Random, draft: &mut Draft) {
     put_temperatures(draft, (flow.temperature(from_air, air), air));
 }
 
+/// A wall's diameter, which is a fault of goal 7.
+fn put_wall(random: &mut Random, draft: &mut Draft) {
+    let (least, greatest) = diameters(Shape::Flat);
+    let any = random.low_between(least, greatest);
+    let diameter = random.pick(&[least, least + 1, greatest - 1, greatest, any, any]);
+    put_field(draft, plain::DIAMETER, diameter);
+}
+
 /// Economy: not zero. Loss: 0, or 1 which is valid. Surface: at or outside ta
-/// and t, or just inside.
+/// and t, or just inside. Goal 7 takes any.
 fn put_aim(random: &mut Random, draft: &mut Draft) {
     let (pipe, air) = get_temperatures(draft);
     let value = match goal_of(draft).method() {
         Method::Economy => random.between(1, 65_535),
         Method::Loss => i32::from(random.once_in(4)),
+        Method::JacketedEconomy => random.between(0, 65_535),
         Method::Surface => {
             let (lowest, highest) = (i16::MIN.into(), i16::MAX.into());
             let below = random.between(lowest, pipe.min(air));
