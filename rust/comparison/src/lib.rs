@@ -3,7 +3,9 @@
 
 pub mod both;
 pub mod cpu;
+pub mod cuttings;
 pub mod float;
+mod natural;
 pub mod plain;
 pub mod sheets;
 #[cfg(target_arch = "x86_64")]

@@ -1,29 +1,7 @@
 //! The yearly share from unrounded growth. The powers are kept to the last
 //! digit and nothing is divided.
 
-/// A whole number below 2⁴⁴⁸, its highest 64 bits first. No product here needs
-/// more than 424 bits.
-#[derive(Clone, Copy, PartialEq, Eq, PartialOrd, Ord)]
-struct Natural([u64; 7]);
-
-impl Natural {
-    const ONE: Natural = Natural([0, 0, 0, 0, 0, 0, 1]);
-
-    fn times(mut self, factor: u64) -> Natural {
-        let mut carry = 0;
-        for part in self.0.iter_mut().rev() {
-            let product = u128::from(*part) * u128::from(factor) + carry;
-            *part = product as u64;
-            carry = product >> 64;
-        }
-        assert_eq!(carry, 0, "a product of more than 448 bits");
-        self
-    }
-
-    fn power(base: u64, exponent: u64) -> Natural {
-        (0..exponent).fold(Natural::ONE, |power, _| power.times(base))
-    }
-}
+use crate::natural::Natural;
 
 /// The powers (10,000 + i)ⁿ and 10,000ⁿ. Growth is A / B, and S = iA / (A − B).
 struct Growth {
