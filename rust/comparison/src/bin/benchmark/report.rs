@@ -10,7 +10,7 @@ pub fn line(label: &str, figure: impl ToString) {
 
 /// A row of a table, each column as wide as its title needs.
 pub fn row<T: ToString>(titles: &[&str], label: &str, figures: &[T]) {
-    print!("  {label:<24}");
+    print!("  {label:<26}");
     for (title, figure) in titles.iter().zip(figures) {
         print!("{:>width$}", figure.to_string(), width = title.len() + 3);
     }

@@ -71,7 +71,7 @@ fn refused() -> Batch {
 }
 
 /// Each goal and shape, and refused sheets.
-pub fn cases() -> [(&'static str, Batch); 11] {
+pub fn cases() -> [(&'static str, Batch); 14] {
     use {Goal::*, Shape::*};
     [
         ("economy, cylinder", answered_for(Economy, Cylinder)),
@@ -90,6 +90,18 @@ pub fn cases() -> [(&'static str, Batch); 11] {
             answered_for(ColdEconomy, Cylinder),
         ),
         ("cold economy, flat wall", answered_for(ColdEconomy, Flat)),
+        (
+            "limited economy, cylinder",
+            answered_for(LimitedEconomy, Cylinder),
+        ),
+        (
+            "limited economy, flat wall",
+            answered_for(LimitedEconomy, Flat),
+        ),
+        (
+            "jacketed economy, cylinder",
+            answered_for(JacketedEconomy, Cylinder),
+        ),
         ("refused", refused()),
     ]
 }

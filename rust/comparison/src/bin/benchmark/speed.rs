@@ -38,7 +38,7 @@ pub fn print_mix(set: &Batch) {
     line("sheets", set.len());
     line("answered, cylinder", answered(1));
     line("answered, flat", answered(2));
-    for number in 11..=18 {
+    for number in (11..=18).chain([43]) {
         let refused = answers.iter().filter(|&answer| *answer == Err(number));
         let count = refused.count();
         if count > 0 {
