@@ -7,6 +7,7 @@ use mathlib.Core.List.{List, []}
 use Prim.Native.Nat.{ℕ, ◌≤◌, ◌<◌}
 use native.Mathlib.Omega.{arith}
 use Rattle.lengths.specs.declared.units.Thickness.{Thickness}
+use Rattle.lengths.specs.Units.{millimetres}
 use Rattle.lengths.specs.Ladder.{rungs, thickness_at}
 use Rattle.refusals.specs.Cases.{numbers}
 use Rattle.refusals.specs.Response.{complete, after}
@@ -84,7 +85,7 @@ module _ (sheet bytes : List ℕ) (h : response_to sheet ≡ complete bytes) (m 
   is = rw (← (answered sheet bytes h).1) (answer_thickness s)
 
   -- under goal 7 up to the answer; otherwise at every rung, since each has the same criterion
-  least : (r : ℕ) → r < rungs → HeldTo s (big_endian bytes 2 2) r → (chosen s ≡ r) ↔ Least (MeetsOn m s.line criterion) (MissesOn m s.line criterion) r
+  least : (r : ℕ) → r < rungs → HeldTo s (millimetres (big_endian bytes 2 2)) r → (chosen s ≡ r) ↔ Least (MeetsOn m s.line criterion) (MissesOn m s.line criterion) r
   least r lt held = go s.counts_jacket refl
     where
       go : (b : Bool) → s.counts_jacket ≡ b → (chosen s ≡ r) ↔ Least (MeetsOn m s.line criterion) (MissesOn m s.line criterion) r

@@ -159,10 +159,10 @@ pub record Demand2 : Type 0 where
   pub reads_back : ReadsBack standard
   pub takes_sheets : (lent : List ℕ) (c : ℕ) → making standard lent c ≡ complete [] → TakesSheets standard lent c
 
--- the rungs that demand 3 speaks of, k mm being the answer: "every rung of the ladder" (00); for goal 7 "demand 3 runs over the rungs from
+-- the rungs that demand 3 speaks of, k being the thickness given: "every rung of the ladder" (00); for goal 7 "demand 3 runs over the rungs from
 -- 0 up to the answer, that one included, and no others" (02, N6)
-abbrev pub HeldTo : Sheet → ℕ → ℕ → Type 0
-HeldTo s k r = s.counts_jacket ≡ true → (thickness_at r).0 ≤ k
+abbrev pub HeldTo : Sheet → Thickness → ℕ → Type 0
+HeldTo s k r = s.counts_jacket ≡ true → (thickness_at r).0 ≤ k.0
 
 -- Demand 3: "For every answered sheet, every cutting of the logarithm's area that the paper allows, however fine, and every rung of the
 -- ladder: that rung equals the thickness we give exactly when it meets the exact equation on that cutting's under-sum and the rung below
@@ -174,7 +174,7 @@ Demand3 =
     (sheet bytes : List ℕ) → response_to sheet ≡ complete bytes → (m : ℕ) → 1 ≤ m → (r : ℕ) → r < rungs →
     let s = decoded sheet in
     let criterion = criterion_of s (deciding_goal s) in
-    HeldTo s (big_endian bytes 2 2) r →
+    HeldTo s (millimetres (big_endian bytes 2 2)) r →
     (big_endian bytes 2 2 ≡ (thickness_at r).0) ↔
     (MeetsBy (criterion (thickness_at r)) (provided_exactly (lower_sum m) s.line (thickness_at r)) ×
     ((r ≡ 0) ⊎ MissesBy (criterion (thickness_at (r - 1))) (provided_exactly (upper_sum m) s.line (thickness_at (r - 1)))))
@@ -200,8 +200,8 @@ SurfaceBound =
     let bound = signed (big_endian bytes 6 2) in
     NotBeyond s.flow s.ambient (surface_difference_exactly (lower_sum m) s k) bound × NotBeyond s.flow s.ambient (surface_difference_exactly (upper_sum m) s k) bound
 
--- What demand 3 and the surface bound compare are fractions: no denominator of need or of its square is 0, nor of have by either sum, nor of how far the
--- surface lies beyond the air, for under-have or for exact have. And Δ is above 0.
+-- What demand 3 and the surface bound compare are fractions: no denominator is 0, neither of what have or its square is compared with, nor of
+-- have by either sum, nor of how far the surface lies beyond the air, for under-have or for exact have. And Δ is above 0.
 abbrev pub Denominators : Type 0
 Denominators =
     (sheet bytes : List ℕ) → response_to sheet ≡ complete bytes → (m : ℕ) → 1 ≤ m → (r : ℕ) →

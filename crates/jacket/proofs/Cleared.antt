@@ -1,9 +1,10 @@
 -- The criterion of a jacketed pipe with its fractions cleared: both sides multiplied by all that either is divided by, but for the outer
 -- diameter, which stands on both.
 -- Assumes nothing.
-use mathlib.Core.Path.{◌≡◌, refl, ap, ◌∙◌}
+use mathlib.Core.Path.{◌≡◌, refl, sym, ap, ◌∙◌}
 use mathlib.Core.Bool.{Bool, true, false, cond}
-use Prim.Native.Nat.{ℕ, ◌+◌, ◌-◌, ◌*◌, ◌<◌}
+use mathlib.Core.Logic.{◌↔◌}
+use Prim.Native.Nat.{ℕ, ◌+◌, ◌-◌, ◌*◌, ◌≤◌, ◌<◌}
 use native.Mathlib.Nat.{mul-le-mul_right, mul-lt-mul_of_pos_right}
 use native.Mathlib.Omega.{arith}
 use lib.Dec.{leb, ltb}
@@ -17,6 +18,9 @@ use Rattle.line.specs.declared.Shape.TheVariants.{Cylinder}
 use Rattle.requirement.specs.declared.EconomyTerms.{EconomyTerms}
 use Rattle.verdict.specs.declared.Verdict.TheVariants.{Insufficient}
 use Rattle.requirement.specs.Required.{economy_squared}
+use Rattle.requirement.specs.Required.Requirement.{root}
+use Rattle.requirement.specs.Exact.{Meets, Misses}
+use Rattle.requirement.specs.Criterion.{MeetsBy, MissesBy}
 use Rattle.requirement.specs.Criterion.Criterion.{squared, unattainable}
 use Rattle.verdict.specs.Verdict.{judged_by_squares, judged_by}
 use Rattle.jacket.specs.Jacket.{price_with_jacket, jacketed}
@@ -36,6 +40,12 @@ module _ (a b e : ℕ) (some : 0 < e) where
       go : (t : Bool) → ltb a b ≡ t → ltb (a * e) (b * e) ≡ t
       go true is = lt-ltb _ _ (mul-lt-mul_of_pos_right (ltb-true a b is) some)
       go false is = le-ltb _ _ (mul-le-mul_right e (ltb-false a b is))
+
+  le_same : (a * e ≤ b * e) ↔ (a ≤ b)
+  le_same = (λ le. leb-true a b (sym same_le ∙ le-leb _ _ le), mul-le-mul_right e)
+
+  lt_same : (a * e < b * e) ↔ (a < b)
+  lt_same = (λ lt. ltb-true a b (sym same_lt ∙ lt-ltb _ _ lt), λ lt. mul-lt-mul_of_pos_right lt some)
 
 -- a factor in both terms of a fraction
 cancelled : (p : Bounds) (a d e : ℕ) → 0 < e → judged_by_squares p ((a * e) over (d * e)) ≡ judged_by_squares p (a over d)
@@ -79,3 +89,25 @@ module _ (l : Line) (Δ : ℕ) (e : EconomyTerms) (jacket : ℕ) (k : Thickness)
           cond t Insufficient (judged_by_squares p cleared)
       go true = refl
       go false = ap (judged_by_squares p) terms ∙ cancelled p cleared.num cleared.den E some
+
+  -- and read exactly, above the critical diameter
+  module _ (some : 0 < E) (above : critical < outer) where
+    uncleared : jacketed l Δ e jacket k ≡ squared ((cleared.num * E) over (cleared.den * E))
+    unfolding jacketed
+    uncleared = rw (lt-leb _ _ above) (ap squared terms)
+
+    module _ (h : Fraction) where
+      -- each side of the comparison, E apart
+      left : cleared.num * E * (h.den * h.den) ≡ cleared.num * (h.den * h.den) * E
+      left = omega arith
+
+      right : h.num * h.num * (cleared.den * E) ≡ h.num * h.num * cleared.den * E
+      right = omega arith
+
+      pub meets_cleared : MeetsBy (jacketed l Δ e jacket k) h ↔ Meets (root cleared) h
+      unfolding Meets
+      meets_cleared = rw (uncleared, left, right) (le_same (cleared.num * (h.den * h.den)) (h.num * h.num * cleared.den) E some)
+
+      pub misses_cleared : MissesBy (jacketed l Δ e jacket k) h ↔ Misses (root cleared) h
+      unfolding Misses
+      misses_cleared = rw (uncleared, left, right) (lt_same (h.num * h.num * cleared.den) (cleared.num * (h.den * h.den)) E some)

@@ -13,11 +13,11 @@ use Rattle.requirement.specs.Required.{economy_squared}
 use Rattle.requirement.specs.Criterion.{Criterion}
 use Rattle.requirement.specs.Criterion.Criterion.{squared, unattainable}
 
--- "P + 20,000 × aim / E": what the insulation costs with its jacket, of so many yuan/m², on an outer diameter E
+-- "P + 20,000 × aim / E": what insulation costs with a jacket of so many yuan/m², on an outer diameter E
 abbrev pub price_with_jacket : EconomyTerms → ℕ → Diameter → Fraction
 price_with_jacket e jacket E = plus (e.insulation over 1) ((20_000 * jacket) over E.0)
 
--- of a rung of k mm: "A rung meets when the square of under-have is at or above that difference times the exact square of need. It misses
+-- of a rung of k mm, 200L / α being the critical diameter of insulation: "A rung meets when the square of under-have is at or above that difference times the exact square of need. It misses
 -- when the square of over-have is below it. … A rung where the difference is not positive misses, exactly read as well."
 unfoldable pub jacketed : Line → ℕ → EconomyTerms → ℕ → Thickness → Criterion
 jacketed l Δ e jacket k =

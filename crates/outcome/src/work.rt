@@ -132,7 +132,7 @@ fn meeting(found: Option<Rung>) -> Result<Rung, Refusal>
     Ok(first)
 }
 
-// The search as a function of its own, for the second pass. The first, which every admitted sheet but that of goal 7 takes, has it inlined.
+// The search as a function of its own, for the second pass. The first pass, which all admitted sheets take, has it inlined.
 #[inline(never)]
 fn search_apart(prepared: Provision, need: Bounds) -> Option<Rung>
     ensures { result ≡ searched prepared.line.line (verdict_for prepared.line.line need) }

@@ -45,7 +45,7 @@ pub record AsGoal1 (rest : List ℕ) : Type 0 where
 pub record WithinLimit : Type 0 where
   -- "90 per cent of the limit in tenths, rounded down"
   pub aim : (s : Sheet) → let limit = loss_limit s.service s.temperature in (100 * second_aim s ≤ 90 * limit) × (90 * limit < 100 * (second_aim s + 1))
-  -- a goal that does not respect the limit, such as goals 1 to 5, has one pass, by the sheet's own goal
+  -- a goal that does not respect the limit, such as goals 1 to 5 and 7, has one pass, by the sheet's own goal
   pub one_pass : (s : Sheet) → s.respects_limit ≡ false → (deciding_pass s ≡ First) × (deciding_goal s ≡ goal_of s)
   pub as_goal_1 : (rest : List ℕ) → AsGoal1 rest
   -- byte 0 is 0 or 1, and 1 for goal 6 only

@@ -14,7 +14,8 @@ pub data Criterion : Type 0 where
   squared : Fraction → Criterion
   unattainable : Criterion
 
--- "Exactly read, a rung meets if have is not below need, and misses if it is.": of the square of have this is what N6 says
+-- "Exactly read, a rung meets if have is not below need, and misses if it is." (01). Under N6 the square of have is compared; and where the
+-- difference is not positive, every have misses.
 abbrev pub MeetsBy : Criterion → Fraction → Type 0
 MeetsBy (enclosed required) provided = Meets required provided
 MeetsBy (squared required) provided = Meets (root required) provided

@@ -1,4 +1,4 @@
--- What holds of a sheet for which the cases 12 to 16 fail: its service, its line, its temperatures and its goal are in range.
+-- What holds of a sheet for which the cases 12 to 16 and 43 fail: its service, its line, its temperatures and its goal are in range.
 -- Assumes nothing.
 use mathlib.Core.Path.{◌≡◌, refl}
 use mathlib.Core.Bool.{false, ◌&&◌, and-eq-true_iff}

@@ -1,4 +1,4 @@
--- The answer to a sheet. 01, "The answer: 8 bytes", and 02, N4 and N5.
+-- The answer to a sheet. 01, "The answer: 8 bytes", and 02, N4 to N6.
 -- Assumes nothing.
 use Rattle.std.specs.Prelude.{ℕ, ◌*◌, List}
 use Rattle.fractions.specs.declared.Bounds.{Bounds}
@@ -28,7 +28,8 @@ unfoldable pub surface_bound : Sheet → Bounds → Temperature
 surface_bound s p =
     bounded s.flow s.temperature s.ambient (ceiling (surface_difference s.line (difference s) (p.lower over 1)))
 
--- the answer with the rung of index r: "Checks and bound are then those of the second rung." (02, N5)
+-- the answer with the rung of index r: "Checks and bound are then those of the second rung." (02, N5); "Both checks and the bound use the
+-- undivided have." (02, N6)
 unfoldable pub answer_of : Sheet → ℕ → Answer
 answer_of s r =
     let p = provided s.line (thickness_at r) in

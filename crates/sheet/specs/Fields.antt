@@ -18,7 +18,7 @@ coded o x l m = record { refusal = UnknownCode; offset = o; value = x; least = l
 abbrev pub ranged : ℕ → ℕ → ℕ → ℕ → Field
 ranged o x l m = record { refusal = OutOfRange; offset = o; value = x; least = l; most = m }
 
--- "14: an unused field not zero, or goal 1 with an aim not zero."; goals 5 and 6 are like goal 1 here
+-- "14: an unused field not zero, or goal 1 with an aim not zero."; goals 5 and 6 are like goal 1 here; goal 7 uses its aim
 abbrev pub unused : ℕ → ℕ → Field
 unused o x = record { refusal = NotZero; offset = o; value = x; least = 0; most = 0 }
 

@@ -34,7 +34,7 @@ value_cases s =
     case (number_of UnknownCode) (faulty s UnknownCode) ∷
     -- "13: a field outside its range."
     case (number_of OutOfRange) (faulty s OutOfRange) ∷
-    -- "14: an unused field not zero, or goal 1 with an aim not zero."; goals 5 and 6 are like goal 1 here
+    -- "14: an unused field not zero, or goal 1 with an aim not zero."; goals 5 and 6 are like goal 1 here; goal 7 uses its aim
     case (number_of NotZero) (faulty s NotZero) ∷
     -- "15: t not above ta."; for goals 4 and 5, for which "t is below ta" (02, N4), t not below ta
     case (number_of NoDrivingDifference) (not (beyond s.flow s.temperature s.ambient)) ∷

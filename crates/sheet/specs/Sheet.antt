@@ -53,7 +53,7 @@ decoded b =
     }
 
 -- "Offsets 14–21 are used for goal 1 only"; "Goal 5 uses offsets 14–21 as goal 1 does and its aim is zero." (02, N4); "Goal 6 is goal 1
--- with that second pass; its aim is zero." (02, N5); goal 7 stands "beside goal 1's fields" (02, N6)
+-- with that second pass; its aim is zero." (02, N5); goal 7 takes its formula "beside goal 1's fields" (02, N6)
 abbrev pub uses_economy : GoalCode → Bool
 uses_economy ForEconomy = true
 uses_economy ForLoss = false

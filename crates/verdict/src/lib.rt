@@ -11,7 +11,7 @@ use fractions::Bounds;
 
 #[derive(Clone, Copy, Debug, PartialEq, Eq)]
 pub enum Verdict {
-    // It meets: under-have is at or above high need.
+    // It meets: under-have is at or above high need. Under goal 7 squares are compared, here and below.
     Sufficient,
     // It misses: over-have is below low need.
     Insufficient,

@@ -50,8 +50,9 @@ pub record ColdExamples : Type 0 where
   -- −0.1 °C in air at 0.1 °C, for a surface at 0.0 °C
   pub across_zero : Answers (sheet_of 4 1 1_080 65_486 250 400 1_163 200) (0 ∷ 1 ∷ 0 ∷ 20 ∷ 3 ∷ 0 ∷ 0 ∷ 211 ∷ [])
   pub next_to_zero : Answers (sheet_of 4 1 570 65_535 1 10 100 0) (0 ∷ 1 ∷ 0 ∷ 10 ∷ 3 ∷ 0 ∷ 0 ∷ 0 ∷ [])
-  -- "Refusals 12 to 16 read these conditions for goals 4 and 5"
+  -- a goal code that is unknown
   pub goal_8 : response_to (economy_of 8 320 70 207 0) ≡ refused 12
+  -- "Refusals 12 to 16 read these conditions for goals 4 and 5":
   -- "down to −1,960", and no further; at −50.1 °C a hot wall is out of range, and a cold one is not
   pub nitrogen : Answers (sheet_of 4 3 12_000 63_576 200 200 800 150) (0 ∷ 2 ∷ 0 ∷ 110 ∷ 3 ∷ 0 ∷ 0 ∷ 152 ∷ [])
   pub colder : response_to (sheet_of 4 3 12_000 63_575 200 200 800 150) ≡ refused 13
