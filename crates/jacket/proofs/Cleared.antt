@@ -24,6 +24,7 @@ use Rattle.requirement.specs.Criterion.{MeetsBy, MissesBy}
 use Rattle.requirement.specs.Criterion.Criterion.{squared, unattainable}
 use Rattle.verdict.specs.Verdict.{judged_by_squares, judged_by}
 use Rattle.jacket.specs.Jacket.{price_with_jacket, jacketed}
+use Rattle.jacket.specs.Cleared.{cleared}
 
 -- a factor on both sides of a comparison
 module _ (a b e : ℕ) (some : 0 < e) where
@@ -64,50 +65,48 @@ module _ (l : Line) (Δ : ℕ) (e : EconomyTerms) (jacket : ℕ) (k : Thickness)
   abbrev critical : ℕ
   critical = 200 * l.conductivity
 
-  -- 1,000 fLτΔ × 14,402,025 (αE − 200L) over (PE + 20,000 × the jacket's price) S α
-  abbrev pub cleared : Fraction
-  cleared =
-      (1000 * (e.heat * l.conductivity * e.hours * Δ) * (14_402_025 * (outer - critical))) over ((e.insulation * E + 20_000 * jacket) * e.share * l.coefficient)
+  abbrev q : Fraction
+  q = cleared l Δ e jacket (outer_diameter l.diameter k) (outer - critical)
 
   -- the fractions of the criterion, E being on both sides
-  terms : times ((outer - critical) over outer) (economy_squared Cylinder l Δ e (price_with_jacket e jacket (outer_diameter l.diameter k))) ≡ (cleared.num * E) over (cleared.den * E)
+  terms : times ((outer - critical) over outer) (economy_squared Cylinder l Δ e (price_with_jacket e jacket (outer_diameter l.diameter k))) ≡ (q.num * E) over (q.den * E)
   terms = λ i. num (outer - critical) i over den i
     where
-      num : (d : ℕ) → d * (14_402_025_000 * (e.heat * l.conductivity * e.hours * Δ) * (1 * E)) ≡ 1000 * (e.heat * l.conductivity * e.hours * Δ) * (14_402_025 * d) * E
+      num : (d : ℕ) → d * (14_402_025_000 * (e.heat * l.conductivity * e.hours * Δ) * (1 * E)) ≡ 14_402_025_000 * (e.heat * l.conductivity * e.hours * Δ) * d * E
       num d = omega arith
 
       den : outer * ((e.insulation * E + 20_000 * jacket * 1) * e.share) ≡ (e.insulation * E + 20_000 * jacket) * e.share * l.coefficient * E
       den = omega arith
 
-  pub judged_cleared : (p : Bounds) → 0 < E → judged_by p (jacketed l Δ e jacket k) ≡ cond (leb outer critical) Insufficient (judged_by_squares p cleared)
+  pub judged_cleared : (p : Bounds) → 0 < E → judged_by p (jacketed l Δ e jacket k) ≡ cond (leb outer critical) Insufficient (judged_by_squares p q)
   unfolding jacketed
   judged_cleared p some = go (leb outer critical)
     where
       go :
           (t : Bool) →
           judged_by p (cond t unattainable (squared (times ((outer - critical) over outer) (economy_squared Cylinder l Δ e (price_with_jacket e jacket (outer_diameter l.diameter k)))))) ≡
-          cond t Insufficient (judged_by_squares p cleared)
+          cond t Insufficient (judged_by_squares p q)
       go true = refl
-      go false = ap (judged_by_squares p) terms ∙ cancelled p cleared.num cleared.den E some
+      go false = ap (judged_by_squares p) terms ∙ cancelled p q.num q.den E some
 
   -- and read exactly, above the critical diameter
   module _ (some : 0 < E) (above : critical < outer) where
-    uncleared : jacketed l Δ e jacket k ≡ squared ((cleared.num * E) over (cleared.den * E))
+    uncleared : jacketed l Δ e jacket k ≡ squared ((q.num * E) over (q.den * E))
     unfolding jacketed
     uncleared = rw (lt-leb _ _ above) (ap squared terms)
 
     module _ (h : Fraction) where
       -- each side of the comparison, E apart
-      left : cleared.num * E * (h.den * h.den) ≡ cleared.num * (h.den * h.den) * E
+      left : q.num * E * (h.den * h.den) ≡ q.num * (h.den * h.den) * E
       left = omega arith
 
-      right : h.num * h.num * (cleared.den * E) ≡ h.num * h.num * cleared.den * E
+      right : h.num * h.num * (q.den * E) ≡ h.num * h.num * q.den * E
       right = omega arith
 
-      pub meets_cleared : MeetsBy (jacketed l Δ e jacket k) h ↔ Meets (root cleared) h
+      pub meets_cleared : MeetsBy (jacketed l Δ e jacket k) h ↔ Meets (root q) h
       unfolding Meets
-      meets_cleared = rw (uncleared, left, right) (le_same (cleared.num * (h.den * h.den)) (h.num * h.num * cleared.den) E some)
+      meets_cleared = rw (uncleared, left, right) (le_same (q.num * (h.den * h.den)) (h.num * h.num * q.den) E some)
 
-      pub misses_cleared : MissesBy (jacketed l Δ e jacket k) h ↔ Misses (root cleared) h
+      pub misses_cleared : MissesBy (jacketed l Δ e jacket k) h ↔ Misses (root q) h
       unfolding Misses
-      misses_cleared = rw (uncleared, left, right) (lt_same (h.num * h.num * cleared.den) (cleared.num * (h.den * h.den)) E some)
+      misses_cleared = rw (uncleared, left, right) (lt_same (h.num * h.num * q.den) (q.num * (h.den * h.den)) E some)

@@ -1,1 +1,2 @@
 pub mod Jacket
+pub mod Cleared

@@ -14,6 +14,7 @@ use Rattle.roots.specs.Root.{floor_root, ceiling_root}
 use Rattle.requirement.specs.Required.{requirement, enclosing}
 use Rattle.provision.specs.Provided.{insulation, film, insulation_bounds, film_bounds, provided}
 use Rattle.verdict.specs.Verdict.{first_not_insufficient}
+use Rattle.jacket.specs.Jacket.{jacketed}
 use Rattle.answer.specs.Answer.{encoded}
 use Rattle.limits.specs.Limits.{neighbours, loss_limit}
 use Rattle.sheet.specs.Sheet.{decoded}
@@ -23,7 +24,7 @@ use Rattle.sheet.specs.Passes.{check_between}
 use Rattle.sheet.specs.Answer.{surface_bound, answer_of}
 use Rattle.book.specs.Refusals.{same_bytes}
 use Rattle.worked.proofs.Examples.{root_low, root_high, low, high}
-use Rattle.method.specs.Method.{Cylinder, Hotter, Between, FlatWall, BetweenRows, SecondPass, ColdLine, ColdWall, Entry, Method}
+use Rattle.method.specs.Method.{Cylinder, Hotter, Between, FlatWall, BetweenRows, SecondPass, WithJacket, ColdLine, ColdWall, Entry, Method}
 
 the_cylinder : Cylinder
 unfolding summed lower_step upper_step least insulation film insulation_bounds film_bounds provided requirement enclosing first_not_insufficient big_endian bytes_of decoded neighbours loss_limit loss_check surface_check check_between surface_bound encoded answer_of first_fault respond
@@ -150,6 +151,20 @@ a_second_pass =
       answer = rw (cheap_low, cheap_high);
     }
 
+the_jacket : WithJacket
+unfolding summed lower_step upper_step least insulation film insulation_bounds film_bounds provided jacketed first_not_insufficient big_endian bytes_of decoded neighbours loss_limit loss_check surface_check check_between surface_bound encoded answer_of first_fault respond
+the_jacket =
+    record {
+      required_0 = refl;
+      required_10 = refl;
+      side_0 = refl;
+      side_10 = refl;
+      judged = (refl, refl);
+      found = refl;
+      bound = refl;
+      answer = refl;
+    }
+
 the_cold_line : ColdLine
 unfolding summed lower_step upper_step least insulation film insulation_bounds film_bounds provided requirement enclosing first_not_insufficient big_endian bytes_of decoded neighbours loss_limit loss_check surface_check check_between surface_bound encoded answer_of first_fault respond
 the_cold_line = record { difference = refl; required = rw (low, high); checks = (refl, refl); bound = refl; answer = rw (low, high) }
@@ -172,6 +187,7 @@ method =
       the_flat_wall = the_flat_wall;
       between_rows = between_rows;
       a_second_pass = a_second_pass;
+      with_a_jacket = the_jacket;
       the_cold_line = the_cold_line;
       the_cold_wall = the_cold_wall;
       an_entry = an_entry;

@@ -3,7 +3,7 @@
 use Rattle.std.specs.Prelude.{ℕ, ◌*◌, ◌≡◌, Some, List, [], ◌∷◌, ◌++◌, get_or}
 use Rattle.std.proofs.Math.Option.{none, some}
 use Rattle.fractions.specs.declared.Bounds.{Bounds}
-use Rattle.fractions.specs.Fraction.{◌over◌}
+use Rattle.fractions.specs.Fraction.{Fraction, ◌over◌}
 use Rattle.fractions.specs.Rounding.{ceiling}
 use Rattle.lengths.specs.Units.{tenths, millimetres}
 use Rattle.temperatures.specs.Temperature.{offset_binary, tenths_celsius}
@@ -12,6 +12,7 @@ use Rattle.quadrature.specs.Cuttings.{lower_sum}
 use Rattle.annex_tables.specs.Annex.{annex_entry}
 use Rattle.line.specs.declared.Shape.TheVariants.{Cylinder as Pipe}
 use Rattle.requirement.specs.declared.Goal.TheVariants.{Loss, Surface}
+use Rattle.jacket.specs.Cleared.{cleared}
 use Rattle.provision.specs.Provided.{film_bounds, insulation_bounds, provided}
 use Rattle.verdict.specs.declared.Verdict.TheVariants.{Sufficient, Insufficient}
 use Rattle.refusals.specs.Response.{complete}
@@ -21,7 +22,7 @@ use Rattle.limits.specs.FlatTable.{flat_table, place}
 use Rattle.sheet.specs.Sheet.{decoded, difference, surface_aim, goal_of}
 use Rattle.sheet.specs.Search.{required_of, first_by}
 use Rattle.sheet.specs.Checks.{loss_check}
-use Rattle.sheet.specs.Passes.{second_aim, check_between, deciding_goal, chosen}
+use Rattle.sheet.specs.Passes.{second_aim, check_between, deciding_goal, verdicts, chosen}
 use Rattle.sheet.specs.Answer.{surface_bound}
 use Rattle.sheet.specs.Refusals.{response_to}
 use Rattle.worked.specs.Sheets.{sheet_f, sheet_g}
@@ -49,6 +50,10 @@ wall service = 2 ∷ service ∷ 0 ∷ 8 ∷ 46 ∷ 224 ∷ 5 ∷ 20 ∷ 0 ∷ 2
 -- the flat wall with cheap heat, by goal 6
 abbrev pub second_pass : List ℕ
 second_pass = 6 ∷ 3 ∷ 0 ∷ 10 ∷ 46 ∷ 224 ∷ 5 ∷ 20 ∷ 0 ∷ 200 ∷ 1 ∷ 144 ∷ 3 ∷ 32 ∷ 3 ∷ 232 ∷ 15 ∷ 160 ∷ 11 ∷ 184 ∷ 8 ∷ 248 ∷ 0 ∷ 0 ∷ []
+
+-- the cylinder with a jacket of 200 yuan/m²
+abbrev pub with_jacket : List ℕ
+with_jacket = 7 ∷ 1 ∷ 0 ∷ 11 ∷ 1 ∷ 14 ∷ 0 ∷ 207 ∷ 0 ∷ 70 ∷ 1 ∷ 77 ∷ 8 ∷ 0 ∷ 29 ∷ 76 ∷ 11 ∷ 64 ∷ 6 ∷ 64 ∷ 8 ∷ 248 ∷ 0 ∷ 200 ∷ []
 
 -- the cylinder as a cold line, and a cold wall
 abbrev pub cold_line : List ℕ
@@ -172,6 +177,21 @@ pub record SecondPass : Type 0 where
   pub bound : surface_bound (decoded second_pass) (bounds 55_000_000 55_000_000) ≡ tenths_celsius 300
   pub answer : response_to second_pass ≡ complete (1 ∷ 2 ∷ 0 ∷ 50 ∷ 0 ∷ 0 ∷ 1 ∷ 44 ∷ [])
 
+-- on an outer diameter E, where αE exceeds 200L by d
+abbrev required_at : ℕ → ℕ → Fraction
+required_at E d = let s = decoded with_jacket in cleared s.line (difference s) s.economy s.aim (tenths E) d
+
+pub record WithJacket : Type 0 where
+  -- what the square of have is compared with at 0 and at 10 mm; the products on the other side; and the verdicts
+  pub required_0 : required_at 270 486_360 ≡ 6_902_397_435_503_354_400_000_000_000 over 20_840_185_856_000
+  pub required_10 : required_at 470 895_960 ≡ 12_715_420_689_023_738_400_000_000_000 over 22_344_892_416_000
+  pub side_0 : 3_251_954 * 3_251_954 * 20_840_185_856_000 ≡ 220_389_233_874_804_115_767_296_000
+  pub side_10 : 29_304_539 * 29_304_539 * 22_344_892_416_000 ≡ 19_188_810_565_720_181_969_780_736_000
+  pub judged : (verdicts (decoded with_jacket) 0 ≡ Insufficient) × (verdicts (decoded with_jacket) 1 ≡ Sufficient)
+  pub found : chosen (decoded with_jacket) ≡ 1
+  pub bound : surface_bound (decoded with_jacket) (bounds 29_304_539 29_304_595) ≡ tenths_celsius 86
+  pub answer : response_to with_jacket ≡ complete (0 ∷ 1 ∷ 0 ∷ 10 ∷ 3 ∷ 0 ∷ 0 ∷ 86 ∷ [])
+
 pub record ColdLine : Type 0 where
   pub difference : difference (decoded cold_line) ≡ 137
   pub required : required_of (decoded cold_line) (goal_of (decoded cold_line)) ≡ bounds 62_154_864 62_154_865
@@ -203,6 +223,7 @@ pub record Method : Type 0 where
   pub the_flat_wall : FlatWall
   pub between_rows : BetweenRows
   pub a_second_pass : SecondPass
+  pub with_a_jacket : WithJacket
   pub the_cold_line : ColdLine
   pub the_cold_wall : ColdWall
   pub an_entry : Entry

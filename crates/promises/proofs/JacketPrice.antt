@@ -30,15 +30,11 @@ module _ (l : Line) (Δ : ℕ) (e : EconomyTerms) (aim : ℕ) (k : Thickness) wh
   abbrev E : ℕ
   E = (outer_diameter l.diameter k).0
 
-  abbrev X : ℕ
-  X = e.heat * l.conductivity * e.hours * Δ
-
   -- what is known of αE where it exceeds 200L by d
   record Exceeds (d : ℕ) : Type 0 where
     pub some : 0 < E
     pub above : 200 * l.conductivity < l.coefficient * E
     pub by : l.coefficient * E - 200 * l.conductivity ≡ d
-    pub same : 1000 * X * (14_402_025 * d) ≡ 14_402_025_000 * X * d
 
   exceeds : (d : ℕ) → 0 < d → d + 200 * l.conductivity ≡ l.coefficient * E → Exceeds d
   exceeds d more is =
@@ -46,17 +42,16 @@ module _ (l : Line) (Δ : ℕ) (e : EconomyTerms) (aim : ℕ) (k : Thickness) wh
         some = pos_of_ne-zero (λ z. omega (arith, more, is, ap (λ (n : ℕ). l.coefficient * n) z));
         above = omega (arith, more, is);
         by = omega (arith, is);
-        same = omega arith;
       }
 
   fractions_cleared : Cleared l Δ e aim k
   unfolding jacketed
   fractions_cleared =
       record {
-        figures = λ d more is p. (let known = exceeds d more is in rw (judged_cleared l Δ e aim k p known.some, lt-leb _ _ known.above, known.by, known.same) refl);
+        figures = λ d more is p. (let known = exceeds d more is in rw (judged_cleared l Δ e aim k p known.some, lt-leb _ _ known.above, known.by) refl);
         exactly = λ d more is have. (
           let known = exceeds d more is in
-          rw (← known.same, ← known.by) (meets_cleared l Δ e aim k known.some known.above have, misses_cleared l Δ e aim k known.some known.above have)
+          rw (← known.by) (meets_cleared l Δ e aim k known.some known.above have, misses_cleared l Δ e aim k known.some known.above have)
         );
         not_positive = λ le. rw (le-leb _ _ le) (λ p. refl, λ have. (tt, λ meets. meets));
       }

@@ -2,8 +2,7 @@
 -- Assumes nothing.
 use Rattle.std.specs.Prelude.{ℕ, ◌+◌, ◌*◌, ◌≤◌, ◌<◌, ◌≡◌, false, ◌↔◌, List, ◌∷◌, ◌++◌, [], get_or, length}
 use Rattle.fractions.specs.declared.Bounds.{Bounds}
-use Rattle.fractions.specs.Fraction.{Fraction, ◌over◌}
-use Rattle.lengths.specs.declared.units.Diameter.{Diameter}
+use Rattle.fractions.specs.Fraction.{Fraction}
 use Rattle.lengths.specs.declared.units.Thickness.{Thickness}
 use Rattle.lengths.specs.Units.{outer_diameter}
 use Rattle.line.specs.declared.Line.{Line}
@@ -16,18 +15,13 @@ use Rattle.requirement.specs.Criterion.Criterion.{enclosed}
 use Rattle.verdict.specs.declared.Verdict.TheVariants.{Insufficient}
 use Rattle.verdict.specs.Verdict.{judged_by_squares, judged_by}
 use Rattle.jacket.specs.Jacket.{jacketed}
+use Rattle.jacket.specs.Cleared.{cleared}
 use Rattle.refusals.specs.Response.{complete}
 use Rattle.sheet.specs.declared.fields.Sheet.{Sheet}
 use Rattle.sheet.specs.Search.{requirement_of, criterion_of}
 use Rattle.sheet.specs.Refusals.{field_cases, response_to}
 
--- "Fractions are cleared first": what the square of have is compared with on an outer diameter E, where αE exceeds 200L by d. It is the
--- difference d / (αE) times "14,402,025,000 × fLτΔ / (PS)" (01), with P + 20,000 × aim / E in place of P; E has cancelled.
-abbrev pub cleared : Line → ℕ → EconomyTerms → ℕ → Diameter → ℕ → Fraction
-cleared l Δ e aim E d =
-    (14_402_025_000 * (e.heat * l.conductivity * e.hours * Δ) * d) over ((e.insulation * E.0 + 20_000 * aim) * e.share * l.coefficient)
-
--- of a line with a jacket, and a thickness k
+-- "Fractions are cleared first": of a line with a jacket, and a thickness k
 pub record Cleared (l : Line) (Δ : ℕ) (e : EconomyTerms) (aim : ℕ) (k : Thickness) : Type 0 where
   -- "A rung meets when the square of under-have is at or above that difference times the exact square of need. It misses when the square of
   -- over-have is below it.", in whole numbers, for the bounds p of have

@@ -20,6 +20,7 @@ use Rattle.provision.specs.Provided.{insulation, film, insulation_bounds, film_b
 use Rattle.verdict.specs.Verdict.{first_not_insufficient}
 use Rattle.verdict.specs.declared.Verdict.{Verdict}
 use Rattle.verdict.specs.declared.Verdict.TheVariants.{Sufficient, Insufficient, Undecided}
+use Rattle.jacket.specs.Jacket.{jacketed}
 use Rattle.answer.specs.Answer.{encoded}
 use Rattle.limits.specs.Limits.{neighbours, loss_limit}
 use Rattle.sheet.specs.Sheet.{decoded}
@@ -27,7 +28,7 @@ use Rattle.sheet.specs.Fields.{first_fault}
 use Rattle.sheet.specs.Checks.{loss_check, surface_check}
 use Rattle.sheet.specs.Passes.{check_between}
 use Rattle.sheet.specs.Answer.{surface_bound, answer_of}
-use Rattle.worked.specs.Examples.{economy_of, bare_wall, hot_wall, tube, Examples, ColdExamples, LimitedExamples}
+use Rattle.worked.specs.Examples.{economy_of, bare_wall, hot_wall, tube, Examples, ColdExamples, LimitedExamples, JacketExamples}
 
 -- a root between two whole numbers, by their squares
 module _ (r : Fraction) (x : ℕ) (pos : 0 < r.den) (above : x * x * r.den < r.num) (below : r.num < (x + 1) * (x + 1) * r.den) where
@@ -143,4 +144,20 @@ limited_examples =
       second_beyond = rw hot_wall_over;
       of_tube = rw tube_over;
       aim_of_goal_6 = refl;
+    }
+
+pub jacket_examples : JacketExamples
+unfolding summed lower_step upper_step least insulation film insulation_bounds film_bounds provided requirement enclosing jacketed first_not_insufficient big_endian bytes_of decoded neighbours loss_limit loss_check surface_check check_between surface_bound encoded answer_of first_fault respond
+jacket_examples =
+    record {
+      priced = refl;
+      free = refl;
+      dearest = refl;
+      widest = refl;
+      wall = refl;
+      wall_at_air = refl;
+      not_positive = (refl, refl);
+      above_it = refl;
+      first_found = refl;
+      missing_again = (refl, refl, refl);
     }

@@ -4,4 +4,3 @@ pub mod Examples
 pub mod Cut
 pub mod Listing
 pub mod Book
-pub mod Jacketed

@@ -1,10 +1,14 @@
--- Answered sheets, for each goal and with each outcome of the checks, one with an unknown service, and sheets of goals 4 to 6, and
+-- Answered sheets, for each goal and with each outcome of the checks, one with an unknown service, and sheets of goals 4 to 7, and
 -- of an unknown goal, that are refused. Two economy sheets are 01's ("D 270 gives 20, D 320 gives 30"); the other answers are computed by tools/sheet.py, which shares
 -- nothing with the crates.
 -- Assumes nothing.
 use Rattle.std.specs.Prelude.{ℕ, ◌≡◌, List, [], ◌∷◌, ◌++◌}
 use Rattle.refusals.specs.Response.{complete, refused}
 use Rattle.big_endian.specs.Bytes.{bytes_of}
+use Rattle.verdict.specs.declared.Verdict.{Verdict}
+use Rattle.verdict.specs.declared.Verdict.TheVariants.{Sufficient, Insufficient}
+use Rattle.sheet.specs.Sheet.{decoded}
+use Rattle.sheet.specs.Passes.{verdicts}
 use Rattle.sheet.specs.Refusals.{response_to}
 use Rattle.worked.specs.Sheets.{Gives}
 
@@ -107,3 +111,33 @@ pub record LimitedExamples : Type 0 where
   pub of_tube : Answers tube (1 ∷ 1 ∷ 0 ∷ 10 ∷ 0 ∷ 0 ∷ 0 ∷ 223 ∷ [])
   -- "its aim is zero"
   pub aim_of_goal_6 : response_to (economy_of 6 270 207 70 1) ≡ refused 14
+
+-- a steam pipe, and a thin one with a poor surface; of goal 7 the aim is the jacket's price
+abbrev pub steam : (D t aim : ℕ) → List ℕ
+steam D t aim =
+    7 ∷ 1 ∷ (bytes_of 2 0 ++ bytes_of 2 D ++ bytes_of 2 t ++ bytes_of 2 200 ++ bytes_of 2 400 ++ bytes_of 2 1_163 ++ bytes_of 2 5_500 ++ bytes_of 2 8_000 ++ bytes_of 2 800 ++ bytes_of 2 2_296 ++ bytes_of 2 aim)
+
+abbrev pub thin : (D : ℕ) → List ℕ
+thin D =
+    7 ∷ 1 ∷ (bytes_of 2 0 ++ bytes_of 2 D ++ bytes_of 2 5_200 ++ bytes_of 2 200 ++ bytes_of 2 500 ++ bytes_of 2 200 ++ bytes_of 2 5_000 ++ bytes_of 2 8_000 ++ bytes_of 2 200 ++ bytes_of 2 5_000 ++ bytes_of 2 200)
+
+-- the verdict on the rung with index r
+abbrev Judged : List ℕ → ℕ → Verdict → Type 0
+Judged sheet r v = verdicts (decoded sheet) r ≡ v
+
+-- 02, N6: "The price of the jacket."
+pub record JacketExamples : Type 0 where
+  -- a jacket of 80 yuan/m², one that costs nothing, and the dearest
+  pub priced : Answers (steam 1_080 2_000 80) (0 ∷ 1 ∷ 0 ∷ 120 ∷ 0 ∷ 0 ∷ 0 ∷ 230 ∷ [])
+  pub free : Answers (steam 1_080 2_000 0) (0 ∷ 1 ∷ 0 ∷ 140 ∷ 0 ∷ 0 ∷ 0 ∷ 225 ∷ [])
+  pub dearest : Answers (steam 1_080 2_000 65_535) (0 ∷ 1 ∷ 0 ∷ 10 ∷ 1 ∷ 1 ∷ 2 ∷ 121 ∷ [])
+  -- "43, after 16, for goal 7 with D above 10,000."; t at ta is 15 first
+  pub widest : Answers (steam 10_000 2_000 80) (0 ∷ 1 ∷ 0 ∷ 200 ∷ 0 ∷ 0 ∷ 0 ∷ 226 ∷ [])
+  pub wall : response_to (steam 10_001 2_000 80) ≡ refused 43
+  pub wall_at_air : response_to (steam 10_001 200 80) ≡ refused 15
+  -- "A rung where the difference is not positive misses": 200L is 100,000, and αE is 60,000 at 0 mm, 100,000 at 10 mm and 140,000 at 20 mm
+  pub not_positive : Judged (thin 300) 0 Insufficient × Judged (thin 300) 1 Insufficient
+  pub above_it : Answers (thin 300) (0 ∷ 1 ∷ 0 ∷ 50 ∷ 0 ∷ 1 ∷ 4 ∷ 215 ∷ [])
+  -- "Rungs above the first that doesn't miss may miss again": 20 mm is the answer, 30 and 40 mm miss, and 50 mm meets
+  pub first_found : Answers (thin 273) (0 ∷ 1 ∷ 0 ∷ 20 ∷ 1 ∷ 1 ∷ 9 ∷ 154 ∷ [])
+  pub missing_again : Judged (thin 273) 3 Insufficient × Judged (thin 273) 4 Insufficient × Judged (thin 273) 5 Sufficient

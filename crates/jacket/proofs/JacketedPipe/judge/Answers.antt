@@ -1,5 +1,5 @@
 -- The fractions of the criterion, cleared.
-use Rattle.std.proofs.Common.{rules, ◌*◌, ◌≤◌, ◌<◌, arith}
+use Rattle.std.proofs.Common.{rules, ◌≡◌, ◌-◌, ◌*◌, ◌≤◌, ◌<◌, arith}
 use borrow.Author.Tests.{le-leb, lt-leb}
 use Rattle.lengths.specs.Units.{outer_diameter}
 use Rattle.jacket.proofs.Sizes.{squares_fit}
@@ -22,4 +22,7 @@ returns c =
     let a = c.args.self in
     let l = a.at.line.line in
     let lt : 200 * l.conductivity < l.coefficient * (outer_diameter l.diameter c.args.k).0 = search rules in
-    rw (judged_cleared l a.at.difference a.terms a.jacket c.args.k c.args.p (omega arith), lt-leb _ _ lt) (search rules)
+    let X = a.terms.heat * l.conductivity * a.terms.hours * a.at.difference in
+    let d = l.coefficient * (outer_diameter l.diameter c.args.k).0 - 200 * l.conductivity in
+    let same : 14_402_025_000 * X * d ≡ 1000 * X * (14_402_025 * d) = omega arith in
+    rw (judged_cleared l a.at.difference a.terms a.jacket c.args.k c.args.p (omega arith), lt-leb _ _ lt, same) (search rules)
