@@ -3,11 +3,14 @@
 A sheet is here a dictionary of its fields. What the answer is, tools/sheet.py says. With these figures tools/sheets.py and
 tools/vectors.py search, and tools/vectors.py compares the answers with them.
 """
+from fractions import Fraction
 from itertools import accumulate
 from math import gcd
 
-from sheet import (COLD_GOALS, ECONOMY_GOALS, LIMITED, MEETS, MISSES, OPEN, SURFACE_GOALS, direction, judge, loss_limit, ratio,
-                   root, sheet_of, up)
+from sheet import (COLD_GOALS, ECONOMY_GOALS, JACKETED, LIMITED, MEETS, MISSES, OPEN, SURFACE_GOALS, direction, judge, loss_limit,
+                   ratio, root, sheet_of, up)
+
+LADDER = range(0, 301, 10)
 
 UNDER = [0, *accumulate(2 * 10**12 // (2 * i + 1) for i in range(100, 16_000))]
 OVER = [0, *accumulate(up(10**12 * (2 * i + 1), 2 * i * (i + 1)) for i in range(100, 16_000))]
@@ -19,7 +22,8 @@ def packed(x):
 
 
 def fields(r, goal, flat, **fixed):
-    """Good fields at random, apart from an aim: the fixed ones as given. A t is drawn on its side of a ta that is given."""
+    """Good fields at random, apart from an aim that sets the need: the fixed ones as given. A t is drawn on its side of a ta that is
+    given."""
     D = r.randint(10_001, 65_535) if flat else r.choice([r.randint(100, 600), r.randint(100, 10_000)])
     ta = fixed.get("ta", r.choice([r.randint(-500, 500), r.randint(-20, 20), 200]))
     if goal in COLD_GOALS:
@@ -31,7 +35,16 @@ def fields(r, goal, flat, **fixed):
     x = dict(goal=goal, service=r.randint(1, 4), line=0, D=D, t=t, ta=ta, L=L, alpha=alpha, f=0, tau=0, P=0, S=0, aim=0)
     if goal in ECONOMY_GOALS:
         x.update(f=r.randint(1, 65_535), tau=r.randint(1, 8_784), P=r.randint(1, 65_535), S=r.randint(1, 10_000))
+    if goal == JACKETED:
+        x.update(aim=r.choice([0, r.randint(1, 300), r.randint(1, 65_535)]))
+        if r.random() < 0.6:
+            x.update(tau=r.randint(2_000, 8_784), P=r.randint(300, 4_000), S=r.randint(500, 3_000))
     return {**x, **fixed}
+
+
+def shapes(goal):
+    """The shapes that a goal takes, by whether the wall is flat."""
+    return (False,) if goal == JACKETED else (False, True)
 
 
 def sides(x):
@@ -64,10 +77,20 @@ def have(x, k):
     return low + n // d, high + up(n, d)
 
 
-def economy_square(x):
-    """The number under the root, without the heat price, as a fraction."""
+def difference(x, k):
+    """Goal 7's 1 - 200L / (αE) at k mm."""
+    return 1 - Fraction(200 * x["L"], x["alpha"] * (x["D"] + 20 * k))
+
+
+def economy_square(x, k):
+    """The number under the root, without the heat price, as a fraction. Under goal 7 it is that of k mm, with the price of the jacket and
+    times the difference, by whose root have would be divided."""
     square = 14_402_025_000 if sides(x) == 2 else 3_598_609_000
-    return square * x["L"] * x["tau"] * from_air(x, x["t"]), x["P"] * x["S"]
+    n, d = square * x["L"] * x["tau"] * from_air(x, x["t"]), x["P"] * x["S"]
+    if x["goal"] != JACKETED:
+        return n, d
+    price = x["P"] + Fraction(20_000 * x["aim"], x["D"] + 20 * k)
+    return (difference(x, k) * n / (price * x["S"])).as_integer_ratio()
 
 
 def loss_need(x, aim):
@@ -80,23 +103,33 @@ def surface_need(x, aim):
     return sides(x) * x["L"] * from_air(x, x["t"]) * 10**7, x["alpha"] * from_air(x, aim)
 
 
-def need(x):
-    """Low need and high need; of goal 6 the first pass's."""
-    if x["goal"] in ECONOMY_GOALS:
-        n, d = economy_square(x)
-        return root(n * x["f"], d)
-    return ratio(*(loss_need if x["goal"] == 2 else surface_need)(x, x["aim"]))
+def need(x, k):
+    """Low need and high need; of goal 6 the first pass's. Goal 7 compares squares, and the square of a whole number is not below a
+    fraction where the number is not below the root rounded up: so that is both its needs at k mm. None where the difference is not
+    positive: no have is enough."""
+    if x["goal"] not in ECONOMY_GOALS:
+        return ratio(*(loss_need if x["goal"] == 2 else surface_need)(x, x["aim"]))
+    if x["goal"] == JACKETED and difference(x, k) <= 0:
+        return None
+    n, d = economy_square(x, k)
+    low, high = root(n * x["f"], d)
+    return (high, high) if x["goal"] == JACKETED else (low, high)
 
 
 def verdict(x, k):
     """Whether k mm meet, miss or are open."""
-    return judge(have(x, k), need(x))
+    required = need(x, k)
+    return judge(have(x, k), required) if required else MISSES
+
+
+def verdicts(x):
+    """The verdicts of all rungs from 0 up."""
+    return [verdict(x, k) for k in LADDER]
 
 
 def thickness(x):
     """The first thickness that doesn't miss, with its verdict; or None. Of goal 6 it is the first pass's."""
-    required = need(x)
-    return next(((k, v) for k in range(0, 301, 10) if (v := judge(have(x, k), required)) != MISSES), None)
+    return next(((k, v) for k in LADDER if (v := verdict(x, k)) != MISSES), None)
 
 
 def surface_limit(x):
@@ -158,11 +191,12 @@ def moved(x, by):
     return {**x, lever(x): x[lever(x)] + (direction(x["goal"]) * by if x["goal"] in SURFACE_GOALS else by)}
 
 
-def aimed(x, h):
-    """The sheet with the heat price or the aim that makes its need h nanometres, as nearly as can be, allowed or not."""
+def aimed(x, h, k):
+    """The sheet with the heat price or the aim that makes its need, under goal 7 that of k mm, h nanometres, as nearly as can be,
+    allowed or not."""
     if x["goal"] in ECONOMY_GOALS:
-        n, d = economy_square(x)
-        return {**x, "f": h * h * d // n}
+        n, d = economy_square(x, k)
+        return {**x, "f": h * h * d // n if n > 0 else 0}
     if x["goal"] == 2:
         n, d = loss_need(x, 1)
         return {**x, "aim": n // (d * h)}
@@ -174,8 +208,13 @@ def between(r, x, k):
     """The sheet aimed so that k mm are the first to meet, in the first pass of goal 6; or None where that fails."""
     top = have(x, k)[0]
     bottom = have(x, k - 10)[1] + 1 if k else 1
-    y = aimed(x, r.randint(bottom, top))
+    y = aimed(x, r.randint(bottom, top), k)
     return next((z for z in (y, moved(y, 1)) if allowed(z) and thickness(z) == (k, MEETS)), None)
+
+
+def missed_below(x, k):
+    """Whether all rungs below k mm miss."""
+    return all(verdict(x, i) == MISSES for i in range(0, k, 10))
 
 
 def chosen(r, goal, flat, k, **fixed):
@@ -219,33 +258,46 @@ def fitted_surface(x, k, aim):
     return coefficients(x, sides(x) * x["L"] * (from_air(x, x["t"]) - s) * 10**7, layer(x, k)[0] * s)
 
 
+def fitted_need(x, k, side=0):
+    """The sheet with the surface coefficient that makes under-have (side 0) or over-have (side 1) of k mm the need, as nearly as can be."""
+    if x["goal"] != JACKETED:
+        return fitted(x, k, need(x, k)[0] + layer(x, k)[0] - layer(x, k)[side])
+    # Under goal 7 the need hangs on the coefficient too: with a higher one there is less have and more need. The first of the two tries has
+    # enough, or no difference above 0; the second has too little.
+    tries = [{**x, "alpha": a} for a in (100, 10_000)]
+    while tries[1]["alpha"] - tries[0]["alpha"] > 1:
+        y = {**x, "alpha": (tries[0]["alpha"] + tries[1]["alpha"]) // 2}
+        lacking = need(y, k) is not None and need(y, k)[0] > have(y, k)[side]
+        tries[lacking] = y
+    return tries
+
+
 def open_at(r, goal, flat, k, **fixed):
-    """A sheet for which k mm are open."""
+    """A sheet for which k mm are open and the rungs below miss."""
     while True:
         x = fields(r, goal, flat, **fixed)
         if goal in SURFACE_GOALS and k == 0:
             x.update(L=r.randint(1, 5), alpha=r.randint(7_000, 10_000))
             x["t"] = r.randint(-1_960, -1_500) if goal in COLD_GOALS else r.randint(4_000, 6_500)
-        y = level(r, goal, k, **fixed) if goal in SURFACE_GOALS and flat and k else aimed(x, have(x, k)[0])
+        y = level(r, goal, k, **fixed) if goal in SURFACE_GOALS and flat and k else aimed(x, have(x, k)[0], k)
         tries = [z for z in (y, moved(y, 1), moved(y, -1)) if allowed(z)]
         if allowed(y):
-            tries += fitted_surface(y, k, y["aim"]) if goal in SURFACE_GOALS else fitted(y, k, need(y)[0])
+            tries += fitted_surface(y, k, y["aim"]) if goal in SURFACE_GOALS else fitted_need(y, k)
         for z in tries:
-            if verdict(z, k) == OPEN:
+            if verdict(z, k) == OPEN and missed_below(z, k):
                 return z
 
 
 def edge(r, goal, flat, k, side, by, **fixed):
-    """A sheet, goal 1, 2, 5 or 6, at an edge of what is open at k mm: high need is 0 or 1 nm above under-have (side 0: it meets,
-    it is open), or low need above over-have (side 1: it is open, it misses)."""
+    """A sheet, goal 1, 2, 5, 6 or 7, at an edge of what is open at k mm: high need is 0 or 1 nm above under-have (side 0: it meets,
+    it is open), or low need above over-have (side 1: it is open, it misses). The rungs below miss."""
     result = [[MEETS, OPEN], [OPEN, MISSES]][side][by]
     while True:
         x = fields(r, goal, flat, **{"L": r.randint(1, 100), "alpha": r.randint(5_000, 10_000), **fixed})
-        y = aimed(x, have(x, k)[0])
-        if allowed(y):
-            for z in fitted(y, k, need(y)[0] + layer(y, k)[0] - layer(y, k)[side]):
-                if need(z)[1 - side] - have(z, k)[side] == by and verdict(z, k) == result:
-                    return z
+        y = aimed(x, have(x, k)[0], k)
+        for z in fitted_need(y, k, side) if allowed(y) else []:
+            if verdict(z, k) == result and need(z, k)[1 - side] - have(z, k)[side] == by and missed_below(z, k):
+                return z
 
 
 def at_loss(x, k, loss, by, wanted):
@@ -364,4 +416,36 @@ def second_edge(r, flat, first, k, side, by, **fixed):
         for y in loss_edge(x, k, second_aim(x), side, by) if loss_limit(x["service"], x["t"]) else []:
             z = over_first(r, y, first)
             if z:
+                return z
+
+
+def small_difference(r, k, most):
+    """The diameter, conductivity and surface coefficient of a goal 7 sheet whose difference at k mm is above 0 and at most so many per
+    cent; k up to 190."""
+    D = r.choice([r.randint(100, 200), r.randint(100, 4_000 - 20 * k)])
+    E = D + 20 * k
+    alpha = r.randint(100, 400_000 // E)
+    return dict(D=D, L=r.randint(up(alpha * E * (100 - most), 20_000), (alpha * E - 1) // 200), alpha=alpha)
+
+
+def missed_again(r, k, again):
+    """A sheet of goal 7 that k mm are the first to meet, since the difference is small there, and that the next rung misses: the next to
+    meet is of `again` mm, or none where that is None."""
+    rungs = (again or 310) // 10 - k // 10
+    wanted = [MISSES] * (k // 10) + [MEETS] + [MISSES] * (rungs - 1) + [MEETS] * (again is not None)
+    while True:
+        x = fields(r, JACKETED, False, **small_difference(r, k, 3))
+        needed = r.randint(have(x, again - 10)[1] + 1, have(x, again)[0]) if again else have(x, 300)[1] * r.randint(101, 200) // 100
+        y = aimed(x, needed, again or 300)
+        if allowed(y) and verdicts(y)[:len(wanted)] == wanted:
+            return y
+
+
+def open_then_missed(r, k):
+    """A sheet of goal 7 whose first rung that doesn't miss, of k mm, is open, and that the next rung misses."""
+    while True:
+        x = fields(r, JACKETED, False, **small_difference(r, k, 15))
+        y = aimed(x, have(x, k)[0], k)
+        for z in (y, moved(y, 1)):
+            if allowed(z) and verdict(z, k) == OPEN and verdict(z, k + 10) == MISSES and missed_below(z, k):
                 return z

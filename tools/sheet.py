@@ -4,8 +4,8 @@
     python3 tools/sheet.py goal service D t ta L alpha f tau P S aim
 
 prints the eight bytes of the answer, or the word refused and the refusal's number. The goals are 1 economy, 2 loss, 3 surface,
-4 cold surface, 5 cold economy and 6 economy that respects the loss limit. t, ta and a surface aim may be negative. A number that
-its field cannot hold stops the script.
+4 cold surface, 5 cold economy, 6 economy that respects the loss limit and 7 economy with the price of the jacket, which is its aim,
+in yuan/m². t, ta and a surface aim may be negative. A number that its field cannot hold stops the script.
 """
 import sys
 from fractions import Fraction
@@ -15,8 +15,10 @@ YEAR_ROUND = [58, 93, 116, 140, 163, 186, 209, 227, 244, 262, 279, 296, 314]
 SEASONAL = [116, 163, 203, 244, 273, 296, 308, 314]
 MEETS, MISSES, OPEN = 0, 1, 2
 NAMES = "goal service line D t ta L alpha f tau P S aim".split()
-GOALS, HOT_GOALS, COLD_GOALS, ECONOMY_GOALS, SURFACE_GOALS = (1, 2, 3, 4, 5, 6), (1, 2, 3, 6), (4, 5), (1, 5, 6), (3, 4)
+GOALS, HOT_GOALS, COLD_GOALS = (1, 2, 3, 4, 5, 6, 7), (1, 2, 3, 6, 7), (4, 5)
+ECONOMY_GOALS, SURFACE_GOALS = (1, 5, 6, 7), (3, 4)
 LIMITED = 6  # economy that respects the loss limit
+JACKETED = 7  # economy with the price of the jacket
 
 
 def up(n, d):
@@ -57,6 +59,17 @@ def surface_need(heat, alpha, s):
 
 def judge(h, n):
     return MEETS if h[0] >= n[1] else MISSES if h[1] < n[0] else OPEN
+
+
+def judge_jacketed(h, E, L, alpha, square, P, S, jacket):
+    """The verdict of goal 7 on a rung of outer diameter E: the square of have against the difference times the square of need.
+
+    The difference is 1 - 200L / (αE), and the square of need is square / ((P + 20,000 × jacket / E) × S). Their product is
+    square × (αE - 200L) / (α × (PE + 20,000 × jacket) × S): E cancels."""
+    n, d = square * (alpha * E - 200 * L), alpha * (P * E + 20_000 * jacket) * S
+    if alpha * E <= 200 * L or h[1]**2 * d < n:
+        return MISSES
+    return MEETS if h[0]**2 * d >= n else OPEN
 
 
 def loss_limit(service, t):
@@ -102,7 +115,7 @@ def unpacked(sheet):
 
 
 def fault(sheet):
-    """The first of the refusals 11 to 16 that holds, or None."""
+    """The first of the refusals 11 to 16 and 43 that holds, or None."""
     if len(sheet) != 24:
         return 11
     goal, service, _, D, t, ta, L, alpha, f, tau, P, S, aim = unpacked(sheet)
@@ -114,24 +127,47 @@ def fault(sheet):
         within = within and f >= 1 and 1 <= tau <= 8_784 and P >= 1 and 1 <= S <= 10_000
     if not within:
         return 13
-    if aim != 0 if goal in ECONOMY_GOALS else (f, tau, P, S) != (0, 0, 0, 0):
+    unused = [] if goal == JACKETED else [aim] if goal in ECONOMY_GOALS else [f, tau, P, S]
+    if any(unused):
         return 14
     delta, s = direction(goal) * (t - ta), direction(goal) * (aim - ta)
     if delta <= 0:
         return 15
     if goal == 2 and aim == 0 or goal in SURFACE_GOALS and not 0 < s < delta:
         return 16
+    if goal == JACKETED and D > 10_000:
+        return 43
     return None
 
 
-def search(D, L, alpha, need):
-    """The first thickness that doesn't miss, with its have, if it meets; or the refusal's number."""
+def search(D, L, alpha, judged):
+    """The first thickness that doesn't miss, with its have, if it meets; or the refusal's number. A rung is judged by its thickness and
+    its have."""
     for k in range(0, 301, 10):
         h = have(D, L, alpha, k)
-        verdict = judge(h, need)
+        verdict = judged(k, h)
         if verdict != MISSES:
             return (k, h) if verdict == MEETS else 18
     return 17
+
+
+def against(need):
+    """The judging of rungs that all have the same need."""
+    return lambda k, h: judge(h, need)
+
+
+def first_pass(sheet):
+    """How the sheet's rungs are judged; of goal 6 in the first pass."""
+    goal, _, _, D, t, ta, L, alpha, f, tau, P, S, aim = unpacked(sheet)
+    n = 2 if D <= 10_000 else 1
+    delta, s = direction(goal) * (t - ta), direction(goal) * (aim - ta)
+    if goal in ECONOMY_GOALS:
+        square = (14_402_025_000 if n == 2 else 3_598_609_000) * f * L * tau * delta
+        if goal == JACKETED:
+            return lambda k, h: judge_jacketed(h, D + 20 * k, L, alpha, square, P, S, aim)
+        return against(root(square, P * S))
+    heat = n * L * delta
+    return against(loss_need(heat, aim) if goal == 2 else surface_need(heat, alpha, s))
 
 
 def answer(sheet):
@@ -139,16 +175,12 @@ def answer(sheet):
     refused = fault(sheet)
     if refused:
         return refused
-    goal, service, _, D, t, ta, L, alpha, f, tau, P, S, aim = unpacked(sheet)
+    goal, service, _, D, t, ta, L, alpha, *_ = unpacked(sheet)
     way = direction(goal)
-    delta, s = way * (t - ta), way * (aim - ta)
+    delta = way * (t - ta)
     n = 2 if D <= 10_000 else 1
     heat = n * L * delta
-    if goal in ECONOMY_GOALS:
-        need = root((14_402_025_000 if n == 2 else 3_598_609_000) * f * L * tau * delta, P * S)
-    else:
-        need = loss_need(heat, aim) if goal == 2 else surface_need(heat, alpha, s)
-    found = search(D, L, alpha, need)
+    found = search(D, L, alpha, first_pass(sheet))
 
     second, limit = 0, loss_limit(service, t) if goal in HOT_GOALS else None
     if goal == LIMITED and limit is not None and not isinstance(found, int):
@@ -156,7 +188,7 @@ def answer(sheet):
         if check == OPEN:
             return 18
         if check == MISSES:
-            second, found = 1, search(D, L, alpha, loss_need(heat, limit * 90 // 100))
+            second, found = 1, search(D, L, alpha, against(loss_need(heat, limit * 90 // 100)))
     if isinstance(found, int):
         return found
 

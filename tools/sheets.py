@@ -8,20 +8,21 @@ Python 3.11; other versions may draw other sheets.
 """
 import sys
 from collections import Counter
-from itertools import combinations, product
+from itertools import combinations
 from random import Random
 
 sys.dont_write_bytecode = True
 from near import (aimed, allowed, beside_air, between, by_loss, chosen, close_loss, close_surface, edge, fields, given, have, level,
-                  limited, moved, open_at, over_loss, packed, second_aim, second_met, second_missed, second_open, surface_limit,
-                  within_loss)
-from sheet import (COLD_GOALS, ECONOMY_GOALS, GOALS, HOT_GOALS, LIMITED, NAMES, SURFACE_GOALS, answer, direction, is_signed,
-                   signed)
+                  limited, missed_again, moved, open_at, open_then_missed, over_loss, packed, second_aim, second_met, second_missed,
+                  second_open, shapes, small_difference, surface_limit, verdicts, within_loss)
+from sheet import (COLD_GOALS, ECONOMY_GOALS, GOALS, HOT_GOALS, JACKETED, LIMITED, MISSES, NAMES, SURFACE_GOALS, answer, direction,
+                   is_signed, signed, unpacked, up)
 
 F = dict(goal=2, service=1, line=7, D=12_000, t=1_300, ta=200, L=400, alpha=800, f=0, tau=0, P=0, S=0, aim=800)
 G = dict(goal=2, service=1, line=9, D=10_001, t=300, ta=200, L=400, alpha=1_163, f=0, tau=0, P=0, S=0, aim=1_163)
 LINES = [0, 1, 9, 10, 99, 100, 255, 256, 999, 1_000, 9_999, 10_000, 32_767, 32_768, 65_534, 65_535]
 RANGES = dict(D=(100, 65_535), L=(1, 2_000), alpha=(100, 10_000))
+FLAT_GOALS = [goal for goal in GOALS if True in shapes(goal)]
 PRICES = dict(f=(1, 65_535), tau=(1, 8_784), P=(1, 65_535), S=(1, 10_000))
 
 
@@ -32,7 +33,8 @@ def coldest(goal):
 
 def kind(r, goals=GOALS):
     """A goal, and whether the wall is flat."""
-    return r.choice(goals), r.random() < 0.4
+    goal = r.choice(goals)
+    return goal, r.random() < 0.4 and goal in FLAT_GOALS
 
 
 def rung(r):
@@ -69,20 +71,20 @@ def small_pipe(r):
 
 def border_diameter(r):
     """Under each goal, the same line as each of the widest cylinders and of the narrowest flat walls."""
-    lines = [good(r, (goal,), D=r.choice([10_000, 10_001])) for goal in GOALS]
+    lines = [good(r, (goal,), D=r.choice([10_000, 10_001] if goal in FLAT_GOALS else [10_000])) for goal in GOALS]
     return [{**x, "D": D} for x in lines for D in (9_999, 10_000, 10_001, 10_002)]
 
 
 def any_aim(r):
     """Fields in their ranges, the aim anything: mostly bare, beyond the ladder, or an aim that is refused."""
     x = fields(r, *kind(r))
-    low, high = {2: (0, 65_535), 3: (-600, 6_600), 4: (-2_000, 600)}.get(x["goal"], (0, 0))
+    low, high = {2: (0, 65_535), 3: (-600, 6_600), 4: (-2_000, 600), 7: (0, 65_535)}.get(x["goal"], (0, 0))
     return [{**x, "aim": r.randint(low, high)}]
 
 
 def bare(r):
     """Thickness 0. Under goals 3 and 4 bare pipe never meets, since the aim is not t."""
-    return [chosen(r, *kind(r, (1, 2, 5, 6)), 0)]
+    return [chosen(r, *kind(r, (1, 2, 5, 6, 7)), 0)]
 
 
 def top(r):
@@ -95,14 +97,14 @@ def beyond(r):
     goal, flat = kind(r)
     while True:
         x = fields(r, goal, flat)
-        y = aimed(x, have(x, 300)[1] * r.randint(1_001, r.choice([1_010, 3_000])) // 1_000)
+        y = aimed(x, have(x, 300)[1] * r.randint(1_001, r.choice([1_010, 3_000])) // 1_000, 300)
         if allowed(y):
             return [y]
 
 
 def unknown_code(r):
     """A goal or a service that is not known."""
-    name, known = r.choice([("goal", 6), ("service", 4)])
+    name, known = r.choice([("goal", 7), ("service", 4)])
     return [wrapped({**good(r), name: r.choice([0, known + 1, known + 2, 255, r.randint(known + 1, 255)])})]
 
 
@@ -111,11 +113,12 @@ def range_edges(r):
     temperatures are moved by as much, so that both its ends are answered."""
     made = []
     for goal in GOALS:
-        way, flat, ta = direction(goal), r.random() < 0.4, r.randint(-400, 400)
+        way, (_, flat), ta = direction(goal), kind(r, (goal,)), r.randint(-400, 400)
         x = chosen(r, goal, flat, 10 * r.randint(1, 10), ta=ta, t=ta + way * r.randint(30, 1_400))
         made += [raised(x, v - ta) for v in (-501, -500, 500, 501)]
-        for name, (low, high) in {**RANGES, "t": (coldest(goal), 6_500), **(PRICES if goal in ECONOMY_GOALS else {})}.items():
-            made += [{**x, name: v} for v in (low - 1, low, high, high + 1) if v <= 65_535]
+        own = {**(PRICES if goal in ECONOMY_GOALS else {}), **(dict(aim=(0, 65_535)) if goal == JACKETED else {})}
+        for name, (low, high) in {**RANGES, "t": (coldest(goal), 6_500), **own}.items():
+            made += [{**x, name: v} for v in (low - 1, low, high, high + 1) if v <= 65_535 and (v >= 0 or name == "t")]
     return made
 
 
@@ -140,8 +143,8 @@ def out_of_range(r):
 
 
 def unused_field(r):
-    """A field that must be zero and is not, by one of its bits or by many."""
-    x = good(r)
+    """A field that must be zero and is not, by one of its bits or by many. Goal 7 uses all fields."""
+    x = good(r, [goal for goal in GOALS if goal != JACKETED])
     name = "aim" if x["goal"] in ECONOMY_GOALS else r.choice(list(PRICES))
     return [{**x, name: r.choice([1 << r.randrange(16), r.randint(1, 65_535)])}]
 
@@ -156,7 +159,7 @@ def wrong_side(r):
 def other_direction(r):
     """A good sheet under a goal of the other direction that uses the same fields."""
     x = good(r)
-    return [wrapped({**x, "goal": {1: 5, 2: 4, 3: 4, 4: r.choice([2, 3]), 5: r.choice([1, 6]), 6: 5}[x["goal"]]})]
+    return [wrapped({**x, "goal": {1: 5, 2: 4, 3: 4, 4: r.choice([2, 3]), 5: r.choice([1, 6, 7]), 6: 5, 7: 5}[x["goal"]]})]
 
 
 def aim_edge(r):
@@ -171,7 +174,7 @@ def aim_edge(r):
 def around_zero(r):
     """Under each goal, on a cylinder and on a flat wall, the pipe's temperature, the air's or a surface aim at zero and a tenth
     from it: all answered."""
-    return [with_temperature(r, goal, flat, name, value) for goal, flat in product(GOALS, (False, True))
+    return [with_temperature(r, goal, flat, name, value) for goal in GOALS for flat in shapes(goal)
             for name in temperatures(goal) for value in (-1, 0, 1)]
 
 
@@ -195,7 +198,7 @@ def bound(x):
 def bound_near_zero(r):
     """A surface bound below zero or next to it: both temperatures are moved by as much."""
     while True:
-        x = chosen(r, *kind(r, (1, 2, 5)), 10 * r.randint(0, 20))
+        x = chosen(r, *kind(r, (1, 2, 5, 7)), 10 * r.randint(0, 20))
         by = r.choice([r.randint(-12, 12), r.randint(-499, -1), -499, -5, 0]) - bound(x)
         if -500 <= x["ta"] + by <= 500 and coldest(x["goal"]) <= x["t"] + by <= 6_500:
             return [raised(x, by)]
@@ -271,7 +274,7 @@ def open_cylinder(r):
 
 def open_flat(r):
     """Flat walls, where only roundings lie between the figures."""
-    return too_close(r, r.choice(GOALS), True, rung(r))
+    return too_close(r, r.choice(FLAT_GOALS), True, rung(r))
 
 
 def open_bare(r):
@@ -286,7 +289,7 @@ def open_top(r):
 
 def open_edge(r):
     """The last need that a rung meets, the first and the last that leave it open, the first that it misses."""
-    goal, flat, k = r.choice((1, 2, 5, 6)), r.random() < 0.3, 10 * r.randint(0, 20)
+    (goal, flat), k = kind(r, (1, 2, 5, 6, 7)), 10 * r.randint(0, 20)
     return [edge(r, goal, flat, k, side, by) for side in (0, 1) for by in (0, 1)]
 
 
@@ -294,7 +297,7 @@ def exact_root(r):
     """A flat wall under an economy goal whose need is a whole number of nanometres, m times 1,897,000, and just what a rung
     provides; and the heat prices beside its own."""
     while True:
-        goal = r.choice(ECONOMY_GOALS)
+        goal = r.choice([goal for goal in ECONOMY_GOALS if goal in FLAT_GOALS])
         m = r.randint(1, 19 if goal in COLD_GOALS else 60)
         L = 1_897 * m % 10_000
         if 1 <= L <= 2_000:
@@ -357,26 +360,52 @@ def limited_too_close(r):
     return [x, {**x, "goal": 1}]
 
 
+def jacketed_wall(r):
+    """A good sheet of goal 7, mostly with the diameter of a flat wall."""
+    x = good(r, (JACKETED,))
+    return [{**x, "D": r.choice([10_000, 10_001, r.randint(10_001, 65_535)])}]
+
+
+def jacket_prices(r):
+    """A sheet of goal 7, the same with a jacket for nothing, and this under goal 1."""
+    x = good(r, (JACKETED,), aim=r.choice([r.randint(30, 300), r.randint(1, 65_535)]))
+    return [x, {**x, "aim": 0}, {**x, "aim": 0, "goal": 1}]
+
+
+def missing_again(r):
+    """Goal 7 where the rung above the thickness misses again; and where the one above an open rung does."""
+    k = 10 * r.choice([0, 0, 1, 2, 5])
+    return [missed_again(r, k, r.choice([None, 150, 200])), open_then_missed(r, k)]
+
+
+def no_difference(r):
+    """Goal 7 with a small difference at a rung, and the same with so much conductivity that the difference there is 0 or hardly less."""
+    x, k = None, 10 * r.randint(0, 10)
+    while not x:
+        x = between(r, fields(r, JACKETED, False, **small_difference(r, k, 50)), 10 * r.randint(k // 10, 30))
+    return [x, {**x, "L": min(2_000, up(x["alpha"] * (x["D"] + 20 * k), 200))}]
+
+
 def several_faults(r):
     """Two or more fields made bad at once."""
     x = good(r)
     bad = int(x["goal"] not in ECONOMY_GOALS)
-    faults = [dict(goal=r.choice([0, 7])), dict(service=r.choice([0, 5])), dict(D=r.randint(0, 99)), dict(L=2_001),
+    faults = [dict(goal=r.choice([0, 8])), dict(service=r.choice([0, 5])), dict(D=r.randint(0, 99)), dict(L=2_001),
               dict(alpha=99), dict(P=bad), dict(f=bad), dict(t=x["ta"]), dict(t=beside_air(x, -1)), dict(t=-1_961),
-              dict(aim=1 - bad)]
+              dict(D=r.randint(10_001, 65_535)) if x["goal"] == JACKETED else dict(aim=1 - bad)]
     for fault in r.sample(faults, r.randint(2, 3)):
         x.update(fault)
     return [wrapped(x)]
 
 
 def two_faults(r):
-    """Under each goal, each two of the refusals 12 to 16 that it has, by one fault each."""
+    """Under each goal, each two of the refusals 12 to 16 and 43 that it has, by one fault each."""
     made = []
     for goal in GOALS:
         x = good(r, (goal,))
         unused = "aim" if goal in ECONOMY_GOALS else r.choice(list(PRICES))
         faults = [dict(service=r.choice([0, 5, 255])), r.choice([dict(D=99), dict(L=0), dict(L=2_001), dict(alpha=99)]),
-                  {unused: 1 << r.randrange(16)}, dict(t=x["ta"])]
+                  dict(D=r.randint(10_001, 65_535)) if goal == JACKETED else {unused: 1 << r.randrange(16)}, dict(t=x["ta"])]
         if goal not in ECONOMY_GOALS:
             faults.append(dict(aim=0 if goal == 2 else x["ta"]))
         made += [{**x, **first, **second} for first, second in combinations(faults, 2)]
@@ -397,7 +426,8 @@ KINDS = [(answered, 260), (small_pipe, 80), (border_diameter, 3), (any_aim, 70),
          (limit_edges, 2), (no_limit, 30), (surface_edges, 4), (open_small, 36), (open_cylinder, 20), (open_flat, 48),
          (open_bare, 16), (open_top, 16), (open_edge, 20), (exact_root, 8), (exact, 15), (loss_too_close, 40),
          (surface_too_close, 40), (limited_checks, 20), (second_borders, 30), (second_too_close, 24), (second_last, 8),
-         (limited_too_close, 20), (several_faults, 50), (two_faults, 2), (random_bytes, 30)]
+         (limited_too_close, 20), (jacketed_wall, 30), (jacket_prices, 20), (missing_again, 15), (no_difference, 20),
+         (several_faults, 50), (two_faults, 2), (random_bytes, 30)]
 
 
 def sheets():
@@ -430,7 +460,9 @@ def classes(sheet):
     k = 256 * result[2] + result[3]
     bound = signed(256 * result[6] + result[7])
     checks = ["within", "over", "close", "none"]
+    again = sheet[0] == JACKETED and MISSES in verdicts(dict(zip(NAMES, unpacked(sheet))))[k // 10:]
     return ["answered", f"goal {sheet[0]}", f"goal {sheet[0]}{why(sheet)}, {shape}", f"service {sheet[1]}", shape,
+            *(["goal 7, a rung above misses again"] if again else []),
             f"loss {checks[result[4]]}, {shape}", f"surface {checks[result[5]]}, {shape}",
             f"{k} mm" if k in (0, 10, 290, 300) else "20 to 280 mm",
             f"bound {'below zero' if bound < 0 else 'zero' if bound == 0 else 'above zero'}"]
