@@ -8,7 +8,7 @@ A figure that the bytes of its field cannot hold exactly stops the script before
 import sys
 from fractions import Fraction
 
-GOALS = {"economy": 1, "loss": 2, "surface": 3, "cold-surface": 4, "cold-economy": 5, "economy-limited": 6}
+GOALS = {"economy": 1, "loss": 2, "surface": 3, "cold-surface": 4, "cold-economy": 5, "economy-limited": 6, "economy-jacket": 7}
 SERVICES = {"year": 1, "season": 2, "year-i": 3, "season-i": 4}  # -i: the loss limit is interpolated between the rows
 UNSIGNED, SIGNED = (0, 65_535), (-32_768, 32_767)  # what two bytes hold
 
@@ -26,10 +26,12 @@ FIELDS = {
     "yearly share": ("0.0001", UNSIGNED),
 }
 AIMS = {"economy": ("0.1", UNSIGNED), "loss": ("0.1 W/m²", UNSIGNED), "surface": ("0.1 °C", SIGNED),
-        "cold-surface": ("0.1 °C", SIGNED), "cold-economy": ("0.1", UNSIGNED), "economy-limited": ("0.1", UNSIGNED)}
+        "cold-surface": ("0.1 °C", SIGNED), "cold-economy": ("0.1", UNSIGNED), "economy-limited": ("0.1", UNSIGNED),
+        "economy-jacket": ("1 yuan/m²", UNSIGNED)}
 
 # By column: line; goal; service; diameter, mm; pipe and air, °C; conductivity, W/(m·K); surface coefficient, W/(m²·K);
-# heat price, yuan/GJ; hours a year; insulation price, yuan/m³; yearly share; aim, W/m² for a loss and °C for a surface.
+# heat price, yuan/GJ; hours a year; insulation price, yuan/m³; yearly share; aim, W/m² for a loss, °C for a surface and, for
+# economy-jacket, the price of the jacket in yuan/m².
 SHEETS = """
 101 economy year      273.0 540.0  25.0 0.0600 11.63 50.00 7500 2000 0.2296     0  # main steam line
 102 loss    year      273.0 540.0  25.0 0.0600 11.63     0    0    0      0 240.0  # main steam, by its loss

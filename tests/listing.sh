@@ -35,7 +35,7 @@ repeat() {
     done
 }
 
-for example in plant rows cold cheap; do
+for example in plant rows cold cheap jackets; do
     $listing <examples/$example.sheets >"$made/out"
     expect "the example $example" <examples/$example.txt
 done

@@ -67,6 +67,8 @@ gives 'a cold row with the largest aim' 0502000000000000000000000000000000000000
     plant '0 cold-economy season 0 0 0 0 0 0 0 0 0 6553.5'
 gives 'a limited row with the largest aim' 06040000000000000000000000000000000000000000ffff \
     plant '0 economy-limited season-i 0 0 0 0 0 0 0 0 0 6553.5'
+gives 'a row with the largest jacket price' 07040000000000000000000000000000000000000000ffff \
+    plant '0 economy-jacket season-i 0 0 0 0 0 0 0 0 0 65535'
 gives 'a row with the largest loss' 02020000000000000000000000000000000000000000ffff \
     plant '0 loss season 0 0 0 0 0 0 0 0 0 6553.5'
 
@@ -98,8 +100,12 @@ refuses 'a row with a cold economy aim' 'line 160: the aim is -0.1, but its fiel
     plant "$(with 13 -0.1 "$(with 2 cold-economy "$tank")")"
 refuses 'a row with a limited economy aim' 'line 160: the aim is -0.1, but its field holds 0 to 65,535 whole units of 0.1' \
     plant "$(with 13 -0.1 "$(with 2 economy-limited "$tank")")"
+for aim in -1 80.5 65536; do
+    refuses "a row with a jacket price of $aim" "line 160: the aim is $aim, but its field holds 0 to 65,535 whole units of 1 yuan/m²" \
+        plant "$(with 13 $aim "$(with 2 economy-jacket "$tank")")"
+done
 refuses 'a row with another goal' \
-    'line 160: the goal is price, but it must be one of economy, loss, surface, cold-surface, cold-economy, economy-limited' \
+    'line 160: the goal is price, but it must be one of economy, loss, surface, cold-surface, cold-economy, economy-limited, economy-jacket' \
     plant "$(with 2 price "$tank")"
 
 gives 'a sheet of the largest numbers' ffffffffffff7fff7fffffffffffffffffffffffffffffff \
@@ -131,7 +137,7 @@ for goal in 3 4; do
         python3 tools/sheet.py $(with 12 32768 "$(with 1 $goal "$sheet")")
 done
 # shellcheck disable=SC2086,SC2046
-for goal in 5 6; do
+for goal in 5 6 7; do
     refuses "an economy sheet with aim -1, goal $goal" 'aim is -1, but its field holds the whole numbers 0 to 65,535' \
         python3 tools/sheet.py $(with 12 -1 "$(with 1 $goal "$sheet")")
 done
@@ -146,7 +152,20 @@ gives 'a limited wall, 90 mm as by economy alone' '0 2 0 90 0 0 1 200' \
 gives 'a limited wall, 110 mm by its second pass' '1 2 0 110 0 0 1 181' python3 tools/sheet.py 6 1 20000 1500 340 1000 1000 810 5000 1160 2000 0
 gives 'a limited wall with an aim' 'refused 14' python3 tools/sheet.py 6 1 20000 1500 340 1000 1000 810 5000 1160 2000 1044
 gives 'a limited pipe, its check too close' 'refused 18' python3 tools/sheet.py 6 2 1080 500 400 400 1160 400 500 2600 2296 0
-gives 'a goal 7' 'refused 12' python3 tools/sheet.py 7 2 1080 500 400 400 1160 400 500 2600 2296 0
+gives 'a jacketed pipe, 70 mm and up to 33.5 °C' '0 1 0 70 0 0 1 79' python3 tools/sheet.py 7 1 2190 2150 250 480 1163 2000 7500 1800 2296 150
+gives 'the same without a jacket, 90 mm' '0 1 0 90 0 0 1 58' python3 tools/sheet.py 1 1 2190 2150 250 480 1163 2000 7500 1800 2296 0
+gives 'a jacketed tube without a difference up to 10 mm' '0 1 0 20 1 0 1 124' \
+    python3 tools/sheet.py 7 1 180 600 250 1000 500 100 500 3000 2296 90
+gives 'a jacketed pipe, bare, where 10 to 30 mm would miss' '0 1 0 0 1 1 5 220' \
+    python3 tools/sheet.py 7 1 450 1500 250 1120 500 2000 6000 1600 2296 90
+gives 'the same without a difference when bare, 40 mm' '0 1 0 40 1 1 2 65' \
+    python3 tools/sheet.py 7 1 450 1500 250 1130 500 2000 6000 1600 2296 90
+gives 'a jacketed pipe, bare, its two squares equal' '0 1 0 0 3 0 1 44' \
+    python3 tools/sheet.py 7 1 1000 300 200 759 10000 100 800 1241 759 2400
+gives 'a jacketed tube, a rung too close' 'refused 18' python3 tools/sheet.py 7 1 100 2700 250 430 1000 2900 4000 1600 2296 160
+gives 'a jacketed wall' 'refused 43' python3 tools/sheet.py 7 1 10001 1500 250 450 1163 2000 7500 1600 2296 90
+gives 'a jacketed wall as cold as the air' 'refused 15' python3 tools/sheet.py 7 1 10001 250 250 450 1163 2000 7500 1600 2296 90
+gives 'a goal 8' 'refused 12' python3 tools/sheet.py 8 2 1080 500 400 400 1160 400 500 2600 2296 0
 
 # made TEXT: a sheet from what a caller hands over
 made() { python3 -c "import sys; sys.path.insert(0, 'tools'); import sheet; print(sheet.sheet_of($1).hex())"; }
@@ -156,7 +175,7 @@ refuses 'half an aim' 'aim is 0.5, but its field holds the whole numbers 0 to 65
 refuses 'another name' 'lien is no field of a sheet' made "$fields, aim=0, lien=7"
 refuses 'a name that is missing' 'aim is not given' made "$fields"
 
-for example in plant rows cold cheap; do
+for example in plant rows cold cheap jackets; do
     python3 examples/$example.py >"$made/out"
     report "the sheets of $example" <examples/$example.sheets
     python3 tools/listing.py <examples/$example.sheets >"$made/out"
