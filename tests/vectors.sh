@@ -75,15 +75,15 @@ holds 'no input' '0 vectors, 0 failed
 ' ''
 
 # a name as long as the input may be
-head -c 524273 /dev/zero | tr '\0' n >"$made/in"
+head -c 327665 /dev/zero | tr '\0' n >"$made/in"
 echo ' - refused 11' >>"$made/in"
 $vectors <"$made/in" >"$made/out" 2>"$made/err"
 tail -c 40 "$made/out" >"$made/end" && mv "$made/end" "$made/out"
-holds '524,287 bytes' 'nn ok: - refused 11
+holds '327,679 bytes' 'nn ok: - refused 11
 1 vectors, 0 failed
 ' ''
 printf n | cat - "$made/in" | $vectors >"$made/out" 2>"$made/err"
-holds '524,288 bytes' '' 'vectors: more than 524,287 bytes
+holds '327,680 bytes' '' 'vectors: more than 327,679 bytes
 '
 
 for size in 1 4095; do

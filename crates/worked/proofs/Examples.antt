@@ -158,6 +158,7 @@ jacket_examples =
       wall_at_air = refl;
       not_positive = (refl, refl);
       above_it = refl;
+      open_rung = (refl, refl, refl);
       first_found = refl;
       missing_again = (refl, refl, refl);
     }

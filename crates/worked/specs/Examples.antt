@@ -6,7 +6,7 @@ use Rattle.std.specs.Prelude.{ℕ, ◌≡◌, List, [], ◌∷◌, ◌++◌}
 use Rattle.refusals.specs.Response.{complete, refused}
 use Rattle.big_endian.specs.Bytes.{bytes_of}
 use Rattle.verdict.specs.declared.Verdict.{Verdict}
-use Rattle.verdict.specs.declared.Verdict.TheVariants.{Sufficient, Insufficient}
+use Rattle.verdict.specs.declared.Verdict.TheVariants.{Sufficient, Insufficient, Undecided}
 use Rattle.sheet.specs.Sheet.{decoded}
 use Rattle.sheet.specs.Passes.{verdicts}
 use Rattle.sheet.specs.Refusals.{response_to}
@@ -121,6 +121,11 @@ abbrev pub thin : (D : ℕ) → List ℕ
 thin D =
     7 ∷ 1 ∷ (bytes_of 2 0 ++ bytes_of 2 D ++ bytes_of 2 5_200 ++ bytes_of 2 200 ++ bytes_of 2 500 ++ bytes_of 2 200 ++ bytes_of 2 5_000 ++ bytes_of 2 8_000 ++ bytes_of 2 200 ++ bytes_of 2 5_000 ++ bytes_of 2 200)
 
+-- a tube whose first rung that doesn't miss is open
+abbrev pub open_jacket : List ℕ
+open_jacket =
+    7 ∷ 1 ∷ (bytes_of 2 7 ++ bytes_of 2 100 ++ bytes_of 2 2_700 ++ bytes_of 2 250 ++ bytes_of 2 430 ++ bytes_of 2 1_000 ++ bytes_of 2 2_900 ++ bytes_of 2 4_000 ++ bytes_of 2 1_600 ++ bytes_of 2 2_296 ++ bytes_of 2 160)
+
 -- the verdict on the rung with index r
 abbrev Judged : List ℕ → ℕ → Verdict → Type 0
 Judged sheet r v = verdicts (decoded sheet) r ≡ v
@@ -138,6 +143,8 @@ pub record JacketExamples : Type 0 where
   -- "A rung where the difference is not positive misses": 200L is 100,000, and αE is 60,000 at 0 mm, 100,000 at 10 mm and 140,000 at 20 mm
   pub not_positive : Judged (thin 300) 0 Insufficient × Judged (thin 300) 1 Insufficient
   pub above_it : Answers (thin 300) (0 ∷ 1 ∷ 0 ∷ 50 ∷ 0 ∷ 1 ∷ 4 ∷ 215 ∷ [])
+  -- the first rung that doesn't miss, 20 mm, is open
+  pub open_rung : (response_to open_jacket ≡ refused 18) × Judged open_jacket 1 Insufficient × Judged open_jacket 2 Undecided
   -- "Rungs above the first that doesn't miss may miss again": 20 mm is the answer, 30 and 40 mm miss, and 50 mm meets
   pub first_found : Answers (thin 273) (0 ∷ 1 ∷ 0 ∷ 20 ∷ 1 ∷ 1 ∷ 9 ∷ 154 ∷ [])
   pub missing_again : Judged (thin 273) 3 Insufficient × Judged (thin 273) 4 Insufficient × Judged (thin 273) 5 Sufficient
