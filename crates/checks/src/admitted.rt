@@ -66,7 +66,11 @@ impl AdmittedSheet {
     {
         let sheet = self.sheet;
         match sheet.goal {
-            GoalCode::ForEconomy if sheet.counts_jacket => Some(JacketedPipe::of(self.at, sheet.economy, sheet.aim)),
+            GoalCode::ForEconomy if sheet.counts_jacket => Some(JacketedPipe::of(
+                self.at,
+                sheet.economy,
+                sheet.aim,
+            )),
             _ => None,
         }
     }

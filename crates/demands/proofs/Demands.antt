@@ -67,8 +67,8 @@ surface_bound_lem sheet bytes h m hm =
     let got = (sheet_demand_2 sheet).answered bytes h in
     rw (got.thickness, got.bound) (both_within (decoded sheet) (answered sheet bytes h).0.admitted (thickness_at got.found.rung) (omega arith) m hm)
 
--- what demand 3 says of the rung with index r, given that it is the chosen one exactly where it is the least
-module _ (sheet bytes : List ℕ) (h : response_to sheet ≡ complete bytes) (m : ℕ) (hm : 1 ≤ m) where
+-- an answered sheet
+module _ (sheet bytes : List ℕ) (h : response_to sheet ≡ complete bytes) where
   abbrev s : Sheet
   s = decoded sheet
 
@@ -78,25 +78,35 @@ module _ (sheet bytes : List ℕ) (h : response_to sheet ≡ complete bytes) (m 
   known : Answered sheet
   known = (answered sheet bytes h).0
 
-  exact : Sound (verdicts s) (MeetsOn m s.line criterion) (MissesOn m s.line criterion)
-  exact = sound s.line criterion (deciding_proper s known.admitted) m (omega (arith, known.admitted.line.coefficient_from)) (omega (arith, known.admitted.line.diameter_from)) hm
+  thickness_is : big_endian bytes 2 2 ≡ (thickness_at (chosen s)).0
+  thickness_is = rw (← (answered sheet bytes h).1) (answer_thickness s)
 
-  is : big_endian bytes 2 2 ≡ (thickness_at (chosen s)).0
-  is = rw (← (answered sheet bytes h).1) (answer_thickness s)
+  -- its rungs on a cutting m
+  module _ (m : ℕ) (hm : 1 ≤ m) where
+    abbrev IsLeast : ℕ → Type 0
+    IsLeast = Least (MeetsOn m s.line criterion) (MissesOn m s.line criterion)
 
-  -- under goal 7 up to the answer; otherwise at every rung, since each has the same criterion
-  least : (r : ℕ) → r < rungs → HeldTo s (millimetres (big_endian bytes 2 2)) r → (chosen s ≡ r) ↔ Least (MeetsOn m s.line criterion) (MissesOn m s.line criterion) r
-  least r lt held = go s.counts_jacket refl
-    where
-      go : (b : Bool) → s.counts_jacket ≡ b → (chosen s ≡ r) ↔ Least (MeetsOn m s.line criterion) (MissesOn m s.line criterion) r
-      go true e = least_up_to (verdicts s) _ _ exact known.enough r (omega (arith, lt, known.found, held e, is))
-      go false e =
-          least_anywhere (verdicts s) _ _ exact known.enough
-          (λ i j le. meets_stays s.line criterion (deciding_proper s known.admitted) m (omega (arith, known.admitted.line.coefficient_from)) (omega (arith, known.admitted.line.diameter_from)) hm i j le (one_criterion s (deciding_goal s) e (thickness_at i) ∙ sym (one_criterion s (deciding_goal s) e (thickness_at j))))
-          r
+    some : (1 ≤ s.line.coefficient) × (1 ≤ s.line.diameter.0)
+    some = (omega (arith, known.admitted.line.coefficient_from), omega (arith, known.admitted.line.diameter_from))
+
+    exact : Sound (verdicts s) (MeetsOn m s.line criterion) (MissesOn m s.line criterion)
+    exact = sound s.line criterion (deciding_proper s known.admitted) m some.0 some.1 hm
+
+    stays : s.counts_jacket ≡ false → (i j : ℕ) → i ≤ j → MeetsOn m s.line criterion i → MissesOn m s.line criterion j → ⊥
+    stays none i j le =
+        let one = one_criterion s (deciding_goal s) none in
+        meets_stays s.line criterion (deciding_proper s known.admitted) m some.0 some.1 hm i j le (one (thickness_at i) ∙ sym (one (thickness_at j)))
+
+    -- under goal 7 up to the answer; otherwise at every rung, since each has the same criterion
+    least : (r : ℕ) → r < rungs → HeldTo s (millimetres (big_endian bytes 2 2)) r → (chosen s ≡ r) ↔ IsLeast r
+    least r lt held = go s.counts_jacket refl
+      where
+        go : (b : Bool) → s.counts_jacket ≡ b → (chosen s ≡ r) ↔ IsLeast r
+        go true e = least_up_to (verdicts s) _ _ exact known.enough r (omega (arith, lt, known.found, held e, thickness_is))
+        go false e = least_anywhere (verdicts s) _ _ exact known.enough (stays e) r
 
 pub demand_3 : Demand3
 demand_3 sheet bytes h m hm r lt held =
     let law = least sheet bytes h m hm r lt held in
-    let chosen_is = is sheet bytes h m hm in
-    (λ e. law.0 (omega (arith, e, lt, (known sheet bytes h m hm).found, chosen_is)), λ e. chosen_is ∙ ap (λ i. (thickness_at i).0) (law.1 e))
+    let is = thickness_is sheet bytes h in
+    (λ e. law.0 (omega (arith, e, lt, (known sheet bytes h).found, is)), λ e. is ∙ ap (λ i. (thickness_at i).0) (law.1 e))

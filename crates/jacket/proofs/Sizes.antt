@@ -35,7 +35,7 @@ module _ (D : Diameter) (k : Thickness) (from : 100 ≤ D.0) (le : k.0 ≤ 300) 
   product_within =
       let each = tera / D.0 + 2 in
       let log : upper_log D E ≤ 6_000 * each =
-          omega (arith, total_within upper_step each D.0 (E.0 - D.0) (step_within D.0 (omega arith)), mul-le-mul_right {m = E.0 - D.0} {n = 6_000} each (omega arith)) in
+      omega (arith, total_within upper_step each D.0 (E.0 - D.0) (step_within D.0 (omega arith)), mul-le-mul_right {m = E.0 - D.0} {n = 6_000} each (omega arith)) in
       let whole : D.0 * each ≤ tera + 2 * D.0 = omega arith in
       omega (arith, mul-le-mul {n₁ = E.0} {m₁ = upper_log D E} {n₂ = 61 * D.0} {m₂ = 6_000 * each} (omega arith) log)
 
@@ -49,7 +49,7 @@ module _ (l : Line) (k : Thickness) (range : LineInRange l) (cylinder : l.diamet
   provided_within =
       let α = l.coefficient in
       let outer : (2 * l.conductivity * 10 ^ 7 + (α - 1)) / α ≤ 400_000_001 =
-          div-le_of_le-mul α {m = 2 * l.conductivity * 10 ^ 7 + (α - 1)} {n = 400_000_001} (omega (arith, range.conductivity_to, range.coefficient_from)) in
+      div-le_of_le-mul α {m = 2 * l.conductivity * 10 ^ 7 + (α - 1)} {n = 400_000_001} (omega (arith, range.conductivity_to, range.coefficient_from)) in
       rw (le-leb l.diameter.0 10_000 cylinder) (omega (arith, insulation_within l.diameter k range.diameter_from le cylinder, outer))
 
   ordered : (provided l k).lower ≤ (provided l k).upper

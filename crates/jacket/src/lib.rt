@@ -39,7 +39,8 @@ impl JacketedPipe {
             at,
             terms,
             jacket,
-            heat_cost: 1000 * (terms.heat * at.line.line.conductivity * terms.hours * at.difference),
+            heat_cost: 1000
+                * (terms.heat * at.line.line.conductivity * terms.hours * at.difference),
         }
     }
 

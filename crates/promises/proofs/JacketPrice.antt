@@ -50,9 +50,9 @@ module _ (l : Line) (Δ : ℕ) (e : EconomyTerms) (aim : ℕ) (k : Thickness) wh
       record {
         figures = λ d more is p. (let known = exceeds d more is in rw (judged_cleared l Δ e aim k p known.some, lt-leb _ _ known.above, known.by) refl);
         exactly = λ d more is have. (
-          let known = exceeds d more is in
-          rw (← known.by) (meets_cleared l Δ e aim k known.some known.above have, misses_cleared l Δ e aim k known.some known.above have)
-        );
+            let known = exceeds d more is in
+            rw (← known.by) (meets_cleared l Δ e aim k known.some known.above have, misses_cleared l Δ e aim k known.some known.above have)
+            );
         not_positive = λ le. rw (le-leb _ _ le) (λ p. refl, λ have. (tt, λ meets. meets));
       }
 
