@@ -31,7 +31,7 @@ ladder-preserved-then-not_insufficient c =
     let at_trial = tried (goal.at.ladder-preserved-then-not_insufficient c).After-judge in
     let meets : not_insufficient (verdict_for l c.args.required r) ≡ true = rw (← at_trial, ← c.judge.ensures) (sym c.if-not_insufficient.ensures) in
     let known = c.ladder.invariant in
-    record { likely = known.likely; below = known.below; above = first_not_above (verdict_for l c.args.required) r meets; within = search rules; kept = λ lt. at_trial }
+    record { likely = known.likely; below = omega (arith, known.below); above = first_not_above (verdict_for l c.args.required) r meets; within = search rules; kept = λ lt. at_trial }
 
 pub ladder-preserved : goal.ladder-preserved
 ladder-preserved c =
