@@ -17,8 +17,9 @@ use Rattle.requirement.specs.Criterion.Criterion.{squared, unattainable}
 abbrev pub price_with_jacket : EconomyTerms → ℕ → Diameter → Fraction
 price_with_jacket e jacket E = plus (e.insulation over 1) ((20_000 * jacket) over E.0)
 
--- of a rung of k mm, 200L / α being the critical diameter of insulation: "A rung meets when the square of under-have is at or above that difference times the exact square of need. It misses
--- when the square of over-have is below it. … A rung where the difference is not positive misses, exactly read as well."
+-- Of a rung of k mm, what the square of have is compared with: "A rung meets when the square of under-have is at or above that difference
+-- times the exact square of need. It misses when the square of over-have is below it." "A rung where the difference is not positive misses,
+-- exactly read as well.": it is positive where E exceeds 200L / α, the critical diameter of insulation.
 unfoldable pub jacketed : Line → ℕ → EconomyTerms → ℕ → Thickness → Criterion
 jacketed l Δ e jacket k =
     let E = outer_diameter l.diameter k in

@@ -24,11 +24,11 @@ use Rattle.sheet.specs.Refusals.{field_cases, response_to}
 -- "Fractions are cleared first": of a line with a jacket, and a thickness k
 pub record Cleared (l : Line) (Δ : ℕ) (e : EconomyTerms) (aim : ℕ) (k : Thickness) : Type 0 where
   -- "A rung meets when the square of under-have is at or above that difference times the exact square of need. It misses when the square of
-  -- over-have is below it.", in whole numbers, for the bounds p of have
+  -- over-have is below it.", in whole numbers, p being the bounds of have
   pub figures :
       let E = outer_diameter l.diameter k in
       (d : ℕ) → 0 < d → d + 200 * l.conductivity ≡ l.coefficient * E.0 → (p : Bounds) → judged_by p (jacketed l Δ e aim k) ≡ judged_by_squares p (cleared l Δ e aim E d)
-  -- and "exactly read as well"
+  -- and the same read exactly
   pub exactly :
       let E = outer_diameter l.diameter k in
       (d : ℕ) → 0 < d → d + 200 * l.conductivity ≡ l.coefficient * E.0 → (have : Fraction) →
