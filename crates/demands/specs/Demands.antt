@@ -159,8 +159,8 @@ pub record Demand2 : Type 0 where
   pub reads_back : ReadsBack standard
   pub takes_sheets : (lent : List ℕ) (c : ℕ) → making standard lent c ≡ complete [] → TakesSheets standard lent c
 
--- the rungs that demand 3 speaks of, k being the thickness given: "every rung of the ladder" (00); for goal 7 "demand 3 runs over the rungs from
--- 0 up to the answer, that one included, and no others" (02, N6)
+-- the rungs that demand 3 speaks of, k being the thickness given: "every rung of the ladder" (00); for goal 7 "demand 3 runs over the rungs
+-- from 0 up to the answer, that one included, and no others" (02, N6)
 abbrev pub HeldTo : Sheet → Thickness → ℕ → Type 0
 HeldTo s k r = s.counts_jacket ≡ true → (thickness_at r).0 ≤ k.0
 
@@ -184,8 +184,8 @@ Demand3 =
 abbrev pub surface_difference_exactly : (Diameter → Diameter → Fraction) → Sheet → Thickness → Fraction
 surface_difference_exactly sum s k = surface_difference s.line (difference s) (provided_exactly sum s.line k)
 
--- A surface that lies d beyond the air, of temperature ta, does not lie beyond a bound: outward ta + d is not above it, and inward ta − d is
--- not below it, which is said as bound + d ≤ ta.
+-- A surface that lies d beyond the air, of temperature ta, does not lie beyond a bound: outward ta + d is not above it, and inward ta − d
+-- is not below it, which is said as bound + d ≤ ta.
 abbrev pub NotBeyond : HeatFlow → Temperature → Fraction → Temperature → Type 0
 NotBeyond Outward ta d bound = plus (ta.0 over 1) d ≼ bound.0 over 1
 NotBeyond Inward ta d bound = plus (bound.0 over 1) d ≼ ta.0 over 1
@@ -200,8 +200,8 @@ SurfaceBound =
     let bound = signed (big_endian bytes 6 2) in
     NotBeyond s.flow s.ambient (surface_difference_exactly (lower_sum m) s k) bound × NotBeyond s.flow s.ambient (surface_difference_exactly (upper_sum m) s k) bound
 
--- What demand 3 and the surface bound compare are fractions: no denominator is 0, neither of what have or its square is compared with, nor of
--- have by either sum, nor of how far the surface lies beyond the air, for under-have or for exact have. And Δ is above 0.
+-- What demand 3 and the surface bound compare are fractions: no denominator is 0, neither of what have or its square is compared with, nor
+-- of have by either sum, nor of how far the surface lies beyond the air, for under-have or for exact have. And Δ is above 0.
 abbrev pub Denominators : Type 0
 Denominators =
     (sheet bytes : List ℕ) → response_to sheet ≡ complete bytes → (m : ℕ) → 1 ≤ m → (r : ℕ) →

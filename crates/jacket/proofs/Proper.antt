@@ -1,4 +1,4 @@
--- What have is compared with under a jacket is a fraction.
+-- What the square of have is compared with under a jacket is a fraction.
 -- Assumes nothing.
 use mathlib.Core.Bool.{Bool, true, false, cond}
 use Prim.Native.Nat.{ℕ, ◌*◌, ◌≤◌, ◌<◌}

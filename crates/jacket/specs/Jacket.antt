@@ -1,5 +1,5 @@
 -- Economy that counts the jacket. 02, N6: "Have and need both depend on the rung: need has P + 20,000 × aim / E in place of P, and have is
--- divided by the root of 1 − 200L / (αE)."
+-- divided by the root of 1 − 200L / (αE)." The formula is 5.2.1-2 of 001, "with exergy coefficient 1".
 -- Assumes nothing.
 use Rattle.std.specs.Prelude.{ℕ, ◌-◌, ◌*◌, cond, leb}
 use Rattle.fractions.specs.Fraction.{Fraction, ◌over◌, plus, times}

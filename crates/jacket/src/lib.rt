@@ -44,8 +44,8 @@ impl JacketedPipe {
         }
     }
 
-    // Searches the ladder for the first rung that does not miss, from rung 0 up: rungs above it may miss again, so that a trial tells nothing
-    // of the rungs beyond it. It is not inlined, so that the search by the other goals keeps its place in the call.
+    // Searches the ladder for the first rung that does not miss, from rung 0 up: rungs above it may miss again, so that a trial tells
+    // nothing of the rungs beyond it. It is not inlined, so that the code for the other goals stays as it was.
     #[inline(never)]
     pub fn search(self, prepared: Provision) -> Option<Rung>
         requires { prepared.line ≡ self.at.line }
@@ -79,8 +79,8 @@ impl JacketedPipe {
     }
 
     // The verdict on a thickness that provides p, with all fractions cleared. E, by which both sides would then be multiplied, is left out:
-    // have² × (PE + 20,000 × the jacket's price) S α is compared with 1,000 fLτΔ × 14,402,025 (αE − 200L). 200L / α is the critical diameter of
-    // insulation, and only above it is the difference positive.
+    // have² × (PE + 20,000 × the jacket's price) S α is compared with 1,000 fLτΔ × 14,402,025 (αE − 200L). 200L / α is the critical
+    // diameter of insulation, and only above it is the difference positive.
     fn judge(self, k: Thickness, p: Bounds) -> Verdict
         requires { (k.0 ≤ 300) × (p ≡ provided self.at.line.line k) }
         ensures { result ≡ judged_by p (jacketed self.at.line.line self.at.difference self.terms self.jacket k) }
@@ -98,7 +98,7 @@ impl JacketedPipe {
         judge_squares(p, heat, insulation)
     }
 
-    // (PE + 20,000 × the jacket's price) S: a year's share of what the insulation costs with its jacket.
+    // (PE + 20,000 × the jacket's price) S: E times a year's share of what insulation costs per m³ with its jacket.
     fn insulation_cost(self, e: u64) -> u64
         requires { e ≤ 16_000 }
         ensures { (result ≡ (self.terms.insulation * e + 20_000 * self.jacket) * self.terms.share) × (result ≤ 65_535 * 36_000 * 10_000) }

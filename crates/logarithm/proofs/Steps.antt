@@ -1,4 +1,5 @@
--- Sums of steps from one diameter to another: one step more, and in two parts; and that they fit 64 bits. The sums are over the figures f of a step; the laws of a logarithm are of both sides.
+-- Sums of steps from one diameter to another: one step more, and in two parts; and that they fit 64 bits. The sums are over the figures f
+-- of a step; the laws of a logarithm are of both sides.
 -- Assumes nothing.
 use mathlib.Core.Path.{◌≡◌, sym}
 use Prim.Native.Nat.{ℕ, zero, suc, ◌+◌, ◌-◌, ◌*◌, ◌^◌, ◌≤◌, ◌<◌}

@@ -22,8 +22,8 @@ abbrev pub economy_factor : Shape → ℕ
 economy_factor Cylinder = 14_402_025_000
 economy_factor Flat = 3_598_609_000
 
--- the square of economy's need, by the price of what is put on: "14,402,025,000 × fLτΔ / (PS) on a cylinder", "3,598,609,000 × fLτΔ / (PS)
--- on a flat wall", with a price in place of P
+-- the square of economy's need, with a price per m³ in place of P: "14,402,025,000 × fLτΔ / (PS) on a cylinder", "3,598,609,000 × fLτΔ /
+-- (PS) on a flat wall"
 abbrev pub economy_squared : Shape → Line → ℕ → EconomyTerms → Fraction → Fraction
 economy_squared shape l Δ e price =
     (economy_factor shape * (e.heat * l.conductivity * e.hours * Δ) * price.den) over (price.num * e.share)
@@ -36,8 +36,7 @@ economy_squared shape l Δ e price =
 -- The equations for cold lines are the same, with Δ = ta − t and s = ta − aim: in 000, (7) and (8) have the coefficients of (1) and (2),
 -- and print t − ta, which 02 reads as Δ; (9) and (13) are what (3) to (6) give for a surface temperature.
 unfoldable pub requirement : Line → ℕ → Goal → Requirement
-requirement l Δ (Economy e) =
-    root (economy_squared (shape_of l) l Δ e (e.insulation over 1))
+requirement l Δ (Economy e) = root (economy_squared (shape_of l) l Δ e (e.insulation over 1))
 requirement l Δ (Loss aim) = ratio ((multiplier (shape_of l) * l.conductivity * Δ * 10 ^ 5) over aim)
 requirement l Δ (Surface s) = ratio ((multiplier (shape_of l) * l.conductivity * Δ * 10 ^ 7) over (l.coefficient * s))
 

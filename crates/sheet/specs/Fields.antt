@@ -50,8 +50,8 @@ economy_fields used s =
     used_if used 18 s.economy.insulation 1 65_535 ∷
     used_if used 20 s.economy.share 1 10_000 ∷ []
 
--- "The aim is zero for goal 1.", and for goals 5 (02, N4) and 6 (02, N5). The aim of goals 2 to 4 is judged by 16, and that of goal 7 may be
--- any, "0 to 65,535" (02, N6).
+-- "The aim is zero for goal 1.", and for goals 5 (02, N4) and 6 (02, N5). The aim of goals 2 to 4 is judged by 16, and that of goal 7 may
+-- be any, "0 to 65,535" (02, N6).
 abbrev pub aim_fields : Bool → Sheet → List Field
 aim_fields true s = []
 aim_fields false s = unused 22 s.aim ∷ []

@@ -1,4 +1,5 @@
--- What is sent back. 01, "Sent back because of the sheet", and 02, N5 and N6; N4: "Refusals 12 to 16 read these conditions for goals 4 and 5".
+-- What is sent back. 01, "Sent back because of the sheet", and 02, N5 and N6; N4: "Refusals 12 to 16 read these conditions for goals 4 and
+-- 5".
 -- Assumes nothing.
 use Rattle.std.specs.Prelude.{ℕ, Bool, false, not, ◌&&◌, ◌||◌, List, [], ◌∷◌, ◌++◌, eqb, ltb, length, is_some}
 use Rattle.lengths.specs.Ladder.{rungs}

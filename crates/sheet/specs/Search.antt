@@ -22,8 +22,8 @@ requirement_of s goal = requirement s.line (difference s) goal
 abbrev pub required_of : Sheet → Goal → Bounds
 required_of s goal = enclosing (requirement_of s goal)
 
--- What a thickness is judged by, against a goal. "Have and need both depend on the rung" (02, N6) under economy that counts the jacket, the aim
--- being the jacket's price; otherwise the same is required at every thickness.
+-- What a thickness is judged by, against a goal. "Have and need both depend on the rung" (02, N6) under economy that counts the jacket, the
+-- aim being the jacket's price; otherwise the same is required at every thickness.
 abbrev pub criterion_of : Sheet → Goal → Thickness → Criterion
 criterion_of s (Economy e) k = cond s.counts_jacket (jacketed s.line (difference s) e s.aim k) (enclosed (requirement_of s (Economy e)))
 criterion_of s (Loss aim) k = enclosed (requirement_of s (Loss aim))

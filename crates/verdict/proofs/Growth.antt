@@ -1,4 +1,5 @@
--- The rungs that miss lie below those that do not; what misses a lower need misses a higher one, and what meets the higher meets the lower.
+-- Where the same is required at every thickness, the rungs that miss lie below those that do not; what misses a lower need misses a higher
+-- one, and what meets the higher meets the lower.
 -- Assumes nothing.
 use mathlib.Core.Path.{◌≡◌, refl}
 use mathlib.Core.Bool.{Bool, true, false, cond}

@@ -14,8 +14,8 @@ use Rattle.requirement.specs.Required.{enclosing}
 use Rattle.requirement.specs.Criterion.{Criterion}
 use Rattle.requirement.specs.Criterion.Criterion.{enclosed, squared, unattainable}
 
--- "A rung meets if under-have is at or above high need. It misses if over-have is below low need. Otherwise it is open.": p is what the rung
--- provides and q what is required
+-- "A rung meets if under-have is at or above high need. It misses if over-have is below low need. Otherwise it is open.": p is what the
+-- rung provides and q what is required
 abbrev pub judged : Bounds → Bounds → Verdict
 judged p q = cond (leb q.upper p.lower) Sufficient (cond (ltb p.upper q.lower) Insufficient Undecided)
 

@@ -18,7 +18,7 @@ pub struct Rung {
 }
 
 // Searches the ladder for the first rung that does not miss the need `required`; where all miss, there is none. What is provided grows with
-// the rung, so each trial rules out the rungs on one side of it. It is inlined in each pass.
+// the rung, so each trial rules out the rungs on one side of it. It is inlined where it is called.
 #[inline(always)]
 pub fn search(prepared: Provision, required: Bounds) -> Option<Rung>
     ensures { result ≡ searched prepared.line.line (verdict_for prepared.line.line required) }

@@ -71,6 +71,7 @@ examples =
       surface_close = refl;
       seasonal_row = refl;
       seasonal_interpolated = refl;
+      goal_8 = refl;
       service_5 = refl;
     }
 
@@ -81,7 +82,6 @@ cold_examples =
       economy_320 = rw (low, high);
       across_zero = refl;
       next_to_zero = refl;
-      goal_8 = refl;
       nitrogen = refl;
       colder = refl;
       hot_50_1 = refl;

@@ -1,6 +1,6 @@
--- Answered sheets, for each goal and with each outcome of the checks, one with an unknown service, and sheets of goals 4 to 7, and
--- of an unknown goal, that are refused. Two economy sheets are 01's ("D 270 gives 20, D 320 gives 30"); the other answers are computed by tools/sheet.py, which shares
--- nothing with the crates.
+-- Answered sheets, for each goal and with each outcome of the checks, two with an unknown goal and an unknown service, and sheets of goals
+-- 4 to 7 that are refused. Two economy sheets are 01's ("D 270 gives 20, D 320 gives 30"); the other answers are computed by
+-- tools/sheet.py, which shares nothing with the crates.
 -- Assumes nothing.
 use Rattle.std.specs.Prelude.{ℕ, ◌≡◌, List, [], ◌∷◌, ◌++◌}
 use Rattle.refusals.specs.Response.{complete, refused}
@@ -43,7 +43,8 @@ pub record Examples : Type 0 where
   -- "The loss check follows the service byte" (02, N2): at 400.1 °C service 2 has the limit of the row, and service 4 none
   pub seasonal_row : Answers (sheet_of 2 2 12_000 4_001 200 400 1_163 3_000) (0 ∷ 2 ∷ 0 ∷ 50 ∷ 0 ∷ 0 ∷ 1 ∷ 189 ∷ [])
   pub seasonal_interpolated : Answers (sheet_of 2 4 12_000 4_001 200 400 1_163 3_000) (0 ∷ 2 ∷ 0 ∷ 50 ∷ 3 ∷ 0 ∷ 1 ∷ 189 ∷ [])
-  -- "refusal 12 admits the two new codes", and no other
+  -- a goal that is unknown; "refusal 12 admits the two new codes", and no other
+  pub goal_8 : response_to (economy_of 8 270 207 70 0) ≡ refused 12
   pub service_5 : response_to (sheet_of 2 5 12_000 1_300 200 400 1_163 1_060) ≡ refused 12
 
 -- 02, N4: "The chilled-water crew wants the same book." The sheet of D 270 is in `Method`, of `method`.
@@ -54,8 +55,6 @@ pub record ColdExamples : Type 0 where
   -- −0.1 °C in air at 0.1 °C, for a surface at 0.0 °C
   pub across_zero : Answers (sheet_of 4 1 1_080 65_486 250 400 1_163 200) (0 ∷ 1 ∷ 0 ∷ 20 ∷ 3 ∷ 0 ∷ 0 ∷ 211 ∷ [])
   pub next_to_zero : Answers (sheet_of 4 1 570 65_535 1 10 100 0) (0 ∷ 1 ∷ 0 ∷ 10 ∷ 3 ∷ 0 ∷ 0 ∷ 0 ∷ [])
-  -- a goal code that is unknown
-  pub goal_8 : response_to (economy_of 8 320 70 207 0) ≡ refused 12
   -- "Refusals 12 to 16 read these conditions for goals 4 and 5":
   -- "down to −1,960", and no further; at −50.1 °C a hot wall is out of range, and a cold one is not
   pub nitrogen : Answers (sheet_of 4 3 12_000 63_576 200 200 800 150) (0 ∷ 2 ∷ 0 ∷ 110 ∷ 3 ∷ 0 ∷ 0 ∷ 152 ∷ [])

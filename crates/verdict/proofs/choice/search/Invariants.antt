@@ -1,5 +1,5 @@
--- The first rung that does not miss lies from low to high, and what is kept is what rung high provides, where there is one. The measure is the distance
--- between the two.
+-- The first rung that does not miss lies from low to high, and what is kept is what rung high provides, where there is one. The measure is
+-- the distance between the two.
 use Rattle.std.proofs.Common.{◌≡◌, ◌-◌, ◌≤◌, ◌<◌}
 use Rattle.lengths.specs.Ladder.{rungs, thickness_at}
 use Rattle.provision.specs.Provided.{provided}
