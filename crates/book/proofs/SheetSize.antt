@@ -1,4 +1,4 @@
--- A sheet that is answered has 24 bytes.
+-- A sheet that is answered has the bytes of its kind.
 -- Assumes nothing.
 use mathlib.Core.Path.{◌≡◌}
 use mathlib.Core.List.{List}
@@ -8,9 +8,11 @@ use borrow.Author.Tests.{eqb-true, not-false}
 use Rattle.refusals.specs.Cases.{NoneHolds}
 use Rattle.refusals.specs.Response.{complete}
 use Rattle.refusals.proofs.Response.{completed}
-use Rattle.sheet.specs.Answer.{answer}
-use Rattle.sheet.specs.Refusals.{cases, response_to}
+use Rattle.kinds.specs.declared.Kind.{Kind}
+use Rattle.kinds.specs.Kind.{sheet_size}
+use Rattle.sheet.specs.Answer.{answer_as}
+use Rattle.sheet.specs.Refusals.{cases_as, response_as}
 
-pub sheet_size : (sheet : List ℕ) {bytes : List ℕ} → response_to sheet ≡ complete bytes → length sheet ≡ 24
+pub size_answered : (kind : Kind) (sheet : List ℕ) {bytes : List ℕ} → response_as kind sheet ≡ complete bytes → length sheet ≡ sheet_size kind
 unfolding NoneHolds
-sheet_size sheet h = eqb-true _ _ (not-false _ (completed (cases sheet) (answer sheet) _ h).0.0)
+size_answered kind sheet h = eqb-true _ _ (not-false _ (completed (cases_as kind sheet) (answer_as kind sheet) _ h).0.0)

@@ -3,6 +3,7 @@
 use Rattle.std.specs.Prelude.{ℕ, ◌+◌, List, replicate}
 use Rattle.overlay.specs.Overlay.{part, overlay}
 use Rattle.big_endian.specs.Bytes.{bytes_of}
+use Rattle.kinds.specs.Kind.{sheet_size}
 use Rattle.layout.specs.declared.offsets.Layout.{Layout}
 use Rattle.layout.specs.Sizes.{capacity, count}
 use Rattle.layout.specs.Layout.{answer_size, count_offset, sheet_offset, answer_offset, bytes_for}
@@ -10,7 +11,7 @@ use Rattle.layout.specs.Layout.{answer_size, count_offset, sheet_offset, answer_
 module _ (l : Layout) where
   -- what stands in slot e of each array
   abbrev pub stored_sheet : List ℕ → ℕ → List ℕ
-  stored_sheet b e = part b (sheet_offset l e) l.sheet
+  stored_sheet b e = part b (sheet_offset l e) (sheet_size l.sheets)
 
   abbrev pub stored_answer : List ℕ → ℕ → List ℕ
   stored_answer b e = part b (answer_offset l (capacity l b) e) answer_size

@@ -3,6 +3,7 @@
 
 ghost use Rattle.std.specs.Prelude.{◌≡◌, ◌<◌, length};
 ghost use Rattle.answer.specs.Answer.{encoded};
+ghost use Rattle.kinds.specs.Kind.{sheet_size};
 ghost use Rattle.layout.specs.SoundBook.{SoundBook};
 ghost use Rattle.book.specs.Book.{with_entry};
 
@@ -14,7 +15,7 @@ use overlay::put;
 // Files a sheet with its answer where there is room: writes slot n of both arrays and raises the count by one.
 pub fn enter(layout: BookLayout, book: &mut [u8], sizes: Sizes, sheet: &[u8], answer: Answer)
     requires sound_book { SoundBook layout.plain book.old sizes }
-    requires fits { (sizes.count < sizes.capacity) × (length sheet.now ≡ layout.plain.sheet) }
+    requires fits { (sizes.count < sizes.capacity) × (length sheet.now ≡ sheet_size layout.plain.sheets) }
     ensures { book.new ≡ with_entry layout.plain book.old sheet.now (encoded answer) }
 {
     let sheet_offset = layout.sheet_offset(sizes.count);

@@ -1,2 +1,2 @@
 pub mod Soundness
-pub mod Standard
+pub mod BothKinds

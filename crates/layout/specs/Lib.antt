@@ -1,4 +1,5 @@
 pub mod Layout
+pub mod OwnKind
 pub mod Sizes
 pub mod Refusals
 pub mod Usable

@@ -1,4 +1,5 @@
--- The sizes that a book states. 01, "The book": "capacity c (2 bytes, 1 to 1,000), count n (2 bytes)".
+-- The sizes that a book states. 01, "The book": "capacity c (2 bytes, 1 to 1,000), count n (2 bytes)"; "capacity and
+-- count in four bytes each" (02, N7).
 -- Assumes nothing.
 use Rattle.std.specs.Prelude.{ℕ, List}
 use Rattle.big_endian.specs.Bytes.{big_endian}

@@ -1,4 +1,4 @@
--- What a `BookLayout` is. The calls ask nothing: 01's layout meets this.
+-- What a `BookLayout` is. The calls ask nothing: both kinds' layouts meet this.
 -- Assumes nothing.
 use Rattle.std.specs.Prelude.{◌^◌, ◌≤◌, ◌<◌}
 use Rattle.layout.specs.declared.offsets.Layout.{Layout}

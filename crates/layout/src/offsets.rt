@@ -1,18 +1,21 @@
 // Where a book keeps what.
 ghost use Rattle.std.specs.Prelude.{◌≡◌, ◌≤◌};
-ghost use Rattle.layout.specs.Layout.{standard as layout_standard, header as layout_header, count_offset, sheet_offset, answer_offset};
+ghost use Rattle.layout.specs.Layout.{layout_of, header as layout_header, count_offset, sheet_offset, answer_offset};
+ghost use Rattle.layout.specs.OwnKind.{own_layout};
 ghost use Rattle.layout.specs.Refusals.{wrong_size};
 ghost use Rattle.layout.specs.Usable.{Usable};
 
+use big_endian::unsigned;
+use kinds::Kind;
 use refusals::outside;
 
-// The bytes before the sizes, the bytes of a size, the largest capacity, and the bytes of a sheet.
+// The bytes before the sizes, the bytes of a size, the largest capacity, and the kind of the sheets.
 #[derive(Clone, Copy, Debug, PartialEq, Eq)]
 pub struct Layout {
     pub lead: usize,
     pub width: usize,
     pub largest: u64,
-    pub sheet: usize,
+    pub sheets: Kind,
 }
 
 // A layout whose sizes and offsets fit.
@@ -23,17 +26,41 @@ pub struct BookLayout {
 }
 
 impl BookLayout {
-    pub fn standard() -> BookLayout
-        ensures { result.plain ≡ layout_standard }
+    // That of a book for sheets of a kind.
+    pub fn of(kind: Kind) -> BookLayout
+        ensures { result.plain ≡ layout_of kind }
     {
-        BookLayout {
-            plain: Layout {
+        let plain = match kind {
+            Kind::Standard => Layout {
                 lead: 0,
                 width: 2,
                 largest: 1_000,
-                sheet: 24,
+                sheets: Kind::Standard,
             },
+            Kind::Larger => Layout {
+                lead: 2,
+                width: 4,
+                largest: 100_000,
+                sheets: Kind::Larger,
+            },
+        };
+        BookLayout { plain }
+    }
+
+    // That which a book's first two bytes tell.
+    #[tactic(auto, unfolding(crate::specs::OwnKind::own_kind))]
+    pub fn own(book: &[u8]) -> BookLayout
+        ensures { result.plain ≡ own_layout book.now }
+    {
+        let short = book.len() < 2;
+        if short {
+            return BookLayout::of(Kind::Standard);
         }
+        let zeros = unsigned(book, 0) == 0;
+        if zeros {
+            return BookLayout::of(Kind::Larger);
+        }
+        BookLayout::of(Kind::Standard)
     }
 
     // Where the count stands.
@@ -55,7 +82,7 @@ impl BookLayout {
         requires { entry ≤ self.plain.largest }
         ensures { result ≡ sheet_offset self.plain entry }
     {
-        self.header() + self.plain.sheet * entry as usize
+        self.header() + self.plain.sheets.sheet_size() * entry as usize
     }
 
     pub fn answer_offset(self, capacity: u64, entry: u64) -> usize

@@ -3,4 +3,4 @@
 
 mod work;
 
-pub use work::work_out;
+pub use work::{work_out, work_out_as};

@@ -12,13 +12,14 @@ ghost use Rattle.sheet.specs.Checks.{loss_check};
 ghost use Rattle.sheet.specs.Passes.{check_between, deciding_pass, chosen};
 ghost use Rattle.answer.specs.Answer.{encoded};
 ghost use Rattle.sheet.specs.Answer.{answer_of};
-ghost use Rattle.sheet.specs.Refusals.{value_cases, ladder_cases, response_to};
+ghost use Rattle.sheet.specs.Refusals.{value_cases, ladder_cases, response_as, response_to};
 ghost use Rattle.outcome.specs.Outcome.{response};
 ghost use Rattle.outcome.specs.Pass.{passed, pass_by, next};
 
 use answer::{Answer, Pass};
 use checks::AdmittedSheet;
 use fractions::Bounds;
+use kinds::Kind;
 use lengths::Ladder;
 use provision::Provision;
 use refusals::Refusal;
@@ -26,16 +27,23 @@ use requirement::required;
 use sheet::Sheet;
 use verdict::{Rung, Verdict, search};
 
-// Works out the sheet that these bytes are.
-#[tactic(auto, unfolding(refusals::specs::Response::respond))]
+// Works out the standard sheet that these bytes are.
 pub fn work_out(bytes: &[u8]) -> Result<Answer, Refusal>
     ensures { response result ≡ response_to bytes.now }
 {
-    let wrong = bytes.len() != 24;
+    work_out_as(Kind::Standard, bytes)
+}
+
+// Works out the sheet of a kind that these bytes are.
+#[tactic(auto, unfolding(refusals::specs::Response::respond))]
+pub fn work_out_as(kind: Kind, bytes: &[u8]) -> Result<Answer, Refusal>
+    ensures { response result ≡ response_as kind bytes.now }
+{
+    let wrong = bytes.len() != kind.sheet_size();
     if wrong {
         return Err(Refusal::SheetLength);
     }
-    let sheet = admit(Sheet::decode(bytes))?;
+    let sheet = admit(Sheet::decode(kind, bytes))?;
     search_ladder(sheet)
 }
 

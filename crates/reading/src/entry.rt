@@ -2,12 +2,14 @@
 ghost use Rattle.std.specs.Prelude.{◌≡◌, ◌+◌, ◌≤◌, ◌++◌, length, IfOk};
 ghost use Rattle.overlay.specs.Overlay.{part};
 ghost use Rattle.refusals.specs.Returned.{response_of};
-ghost use Rattle.sheet.specs.Refusals.{response_to};
+ghost use Rattle.kinds.specs.Kind.{sheet_size};
+ghost use Rattle.sheet.specs.Refusals.{response_as};
 ghost use Rattle.book.specs.Book.{stored_sheet, stored_answer};
 ghost use Rattle.book.specs.Refusals.{gives, reading};
 
-use layout::Book;
-use outcome::work_out;
+use kinds::Kind;
+use layout::{Book, BookLayout};
+use outcome::work_out_as;
 use refusals::Refusal;
 
 // An entry's two slots.
@@ -17,25 +19,36 @@ pub(crate) struct Entry<'a> {
     pub answer: &'a [u8],
 }
 
-// The entry of this number, after working its sheet out again.
+// The entry of this number in the book that these bytes are in a layout.
+pub(crate) fn entry_in(layout: BookLayout, bytes: &[u8], number: u64) -> Result<Entry<'_>, Refusal>
+    ensures response { response_of (λ e. e.sheet.now ++ e.answer.now) result ≡ reading layout.plain bytes.now number }
+    ensures stored { let l = layout.plain in
+        IfOk result (λ e. (e.sheet.now ≡ stored_sheet l bytes.now number) × (e.answer.now ≡ stored_answer l bytes.now number)) }
+    ensures sizes { IfOk result (λ e. (length e.sheet.now ≡ sheet_size layout.plain.sheets) × (length e.answer.now ≡ 8)) }
+{
+    entry_of(layout.examine(bytes)?, number)
+}
+
+// The entry of this number in a sound book, after working its sheet out again.
 #[tactic(auto, unfolding(refusals::specs::Response::respond))]
-pub(crate) fn entry_of(book: Book<'_>, number: u64) -> Result<Entry<'_>, Refusal>
+fn entry_of(book: Book<'_>, number: u64) -> Result<Entry<'_>, Refusal>
     ensures response { let b = book.entry in
         response_of (λ e. e.sheet.now ++ e.answer.now) result ≡ reading b.layout.plain b.bytes.now number }
     ensures stored { let l = book.entry.layout.plain in
         let b = book.entry.bytes.now in
         IfOk result (λ e. (e.sheet.now ≡ stored_sheet l b number) × (e.answer.now ≡ stored_answer l b number)) }
     ensures sizes { let l = book.entry.layout.plain in
-        IfOk result (λ e. (length e.sheet.now ≡ l.sheet) × (length e.answer.now ≡ 8)) }
+        IfOk result (λ e. (length e.sheet.now ≡ sheet_size l.sheets) × (length e.answer.now ≡ 8)) }
 {
     if book.sizes.count <= number {
         return Err(Refusal::NoSuchEntry);
     }
     let sheet_offset = book.layout.sheet_offset(number);
     let answer_offset = book.layout.answer_offset(book.sizes.capacity, number);
-    let sheet = slot(book.bytes, sheet_offset, book.layout.plain.sheet);
+    let kind = book.layout.plain.sheets;
+    let sheet = slot(book.bytes, sheet_offset, kind.sheet_size());
     let answer = slot(book.bytes, answer_offset, 8);
-    let right = is_answer(sheet, answer);
+    let right = is_answer(kind, sheet, answer);
     if right {
         Ok(Entry { sheet, answer })
     } else {
@@ -52,11 +65,11 @@ fn slot(book: &[u8], offset: usize, size: usize) -> &[u8]
     &book[offset..end]
 }
 
-// Whether the sheet is answered, and with these bytes. Not `is_ok_and`: tried, and the proof that the bytes decide did not close.
-fn is_answer(sheet: &[u8], filed: &[u8]) -> bool
-    ensures { result ≡ gives (response_to sheet.now) filed.now }
+// Whether the sheet of this kind is answered, and with these bytes. Not `is_ok_and`: tried, and the proof that the bytes decide did not close.
+fn is_answer(kind: Kind, sheet: &[u8], filed: &[u8]) -> bool
+    ensures { result ≡ gives (response_as kind sheet.now) filed.now }
 {
-    match work_out(sheet) {
+    match work_out_as(kind, sheet) {
         Ok(answer) => answer.encode().as_slice() == filed,
         Err(_) => false,
     }

@@ -1,9 +1,11 @@
--- The answer to a sheet. 01, "The answer: 8 bytes", and 02, N4 to N6.
+-- The answer to a sheet. 01, "The answer: 8 bytes", and 02, N4 to N7.
 -- Assumes nothing.
 use Rattle.std.specs.Prelude.{ℕ, ◌*◌, List}
 use Rattle.fractions.specs.declared.Bounds.{Bounds}
 use Rattle.fractions.specs.Fraction.{Fraction, ◌over◌}
 use Rattle.fractions.specs.Rounding.{ceiling}
+use Rattle.kinds.specs.declared.Kind.{Kind}
+use Rattle.kinds.specs.declared.Kind.TheVariants.{Standard}
 use Rattle.lengths.specs.Ladder.{thickness_at}
 use Rattle.temperatures.specs.declared.Temperature.{Temperature}
 use Rattle.heat_flow.specs.HeatFlow.{bounded}
@@ -13,7 +15,7 @@ use Rattle.provision.specs.Provided.{film, provided}
 use Rattle.answer.specs.declared.Answer.{Answer}
 use Rattle.answer.specs.Answer.{encoded}
 use Rattle.sheet.specs.declared.fields.Sheet.{Sheet}
-use Rattle.sheet.specs.Sheet.{decoded, difference}
+use Rattle.sheet.specs.Sheet.{decoded_as, difference}
 use Rattle.sheet.specs.Checks.{loss_check, surface_check}
 use Rattle.sheet.specs.Passes.{deciding_pass, chosen}
 
@@ -42,6 +44,9 @@ answer_of s r =
       bound = surface_bound s p;
     }
 
--- the eight bytes for a sheet: those of the chosen rung
+-- the eight bytes for a sheet of a kind, and for a standard one: those of the chosen rung
+abbrev pub answer_as : Kind → List ℕ → List ℕ
+answer_as kind sheet = let s = decoded_as kind sheet in encoded (answer_of s (chosen s))
+
 abbrev pub answer : List ℕ → List ℕ
-answer sheet = let s = decoded sheet in encoded (answer_of s (chosen s))
+answer = answer_as Standard

@@ -1,7 +1,10 @@
--- What is sent back. 01, "Sent back because of the sheet", and 02, N5 and N6; N4: "Refusals 12 to 16 read these conditions for goals 4 and
+-- What is sent back. 01, "Sent back because of the sheet", and 02, N5 to N7; N4: "Refusals 12 to 16 read these conditions for goals 4 and
 -- 5".
 -- Assumes nothing.
 use Rattle.std.specs.Prelude.{ℕ, Bool, false, not, ◌&&◌, ◌||◌, List, [], ◌∷◌, ◌++◌, eqb, ltb, length, is_some}
+use Rattle.kinds.specs.declared.Kind.{Kind}
+use Rattle.kinds.specs.declared.Kind.TheVariants.{Standard}
+use Rattle.kinds.specs.Kind.{sheet_size}
 use Rattle.lengths.specs.Ladder.{rungs}
 use Rattle.refusals.specs.declared.Refusal.{Refusal}
 use Rattle.refusals.specs.declared.Refusal.TheVariants.{SheetLength, UnknownCode, OutOfRange, NotZero, NoDrivingDifference, InvalidAim, NotCylinder, NoneSufficient, TooClose}
@@ -13,10 +16,10 @@ use Rattle.heat_flow.specs.HeatFlow.{beyond}
 use Rattle.sheet.specs.declared.fields.GoalCode.{GoalCode}
 use Rattle.sheet.specs.declared.fields.GoalCode.TheVariants.{ForEconomy, ForLoss, ForSurface}
 use Rattle.sheet.specs.declared.fields.Sheet.{Sheet}
-use Rattle.sheet.specs.Sheet.{decoded, surface_aim}
+use Rattle.sheet.specs.Sheet.{decoded_as, surface_aim}
 use Rattle.sheet.specs.Fields.{fields, first_fault}
 use Rattle.sheet.specs.Passes.{check_between, too_close, verdicts, chosen}
-use Rattle.sheet.specs.Answer.{answer}
+use Rattle.sheet.specs.Answer.{answer_as}
 
 -- "goal 2 with aim 0; goal 3 unless ta < aim < t."; goal 4 unless "t < aim < ta" (02, N4)
 abbrev pub aim_refused : Sheet → GoalCode → Bool
@@ -45,12 +48,12 @@ value_cases s =
     case (number_of NotCylinder) (s.counts_jacket && ltb 10_000 s.line.diameter.0) ∷
     []
 
--- the cases that need no rung
-abbrev pub field_cases : List ℕ → List Case
-field_cases bytes =
-    -- "11: length is not 24."
-    case (number_of SheetLength) (not (eqb (length bytes) 24)) ∷
-    value_cases (decoded bytes)
+-- the cases of a sheet of a kind that need no rung
+abbrev pub field_cases_as : Kind → List ℕ → List Case
+field_cases_as kind bytes =
+    -- "11: length is not 24."; "11 for 26 bytes in the larger book" (02, N7): there, length is not 26
+    case (number_of SheetLength) (not (eqb (length bytes) (sheet_size kind))) ∷
+    value_cases (decoded_as kind bytes)
 
 -- the cases that try the ladder, in the pass that decides: "The second pass can meet 17 and 18 as the first can." (02, N5)
 abbrev pub ladder_cases : Sheet → List Case
@@ -61,9 +64,19 @@ ladder_cases s =
     case (number_of TooClose) (is_undecided (verdicts s (chosen s)) || too_close (check_between s)) ∷
     []
 
-abbrev pub cases : List ℕ → List Case
-cases bytes = field_cases bytes ++ ladder_cases (decoded bytes)
+abbrev pub cases_as : Kind → List ℕ → List Case
+cases_as kind bytes = field_cases_as kind bytes ++ ladder_cases (decoded_as kind bytes)
 
--- what the call that answers a sheet responds to its bytes
+-- what the call that answers a sheet of a kind responds to its bytes
+abbrev pub response_as : Kind → List ℕ → Response
+response_as kind bytes = respond (cases_as kind bytes) (answer_as kind bytes)
+
+-- the same of standard sheets
+abbrev pub field_cases : List ℕ → List Case
+field_cases = field_cases_as Standard
+
+abbrev pub cases : List ℕ → List Case
+cases = cases_as Standard
+
 abbrev pub response_to : List ℕ → Response
-response_to bytes = respond (cases bytes) (answer bytes)
+response_to = response_as Standard

@@ -1,7 +1,10 @@
--- The fields of a sheet. 01, "The sheet: 24 bytes", and 02, N4 to N6.
+-- The fields of a sheet. 01, "The sheet: 24 bytes", and 02, N4 to N7.
 -- Assumes nothing.
-use Rattle.std.specs.Prelude.{ℕ, Bool, true, false, cond, ◌||◌, List, eqb, get_or}
+use Rattle.std.specs.Prelude.{ℕ, ◌+◌, Bool, true, false, cond, ◌||◌, List, eqb, get_or}
 use Rattle.big_endian.specs.Bytes.{big_endian}
+use Rattle.kinds.specs.declared.Kind.{Kind}
+use Rattle.kinds.specs.declared.Kind.TheVariants.{Standard}
+use Rattle.kinds.specs.Kind.{longer, moved}
 use Rattle.lengths.specs.Units.{tenths}
 use Rattle.temperatures.specs.declared.Temperature.{Temperature}
 use Rattle.temperatures.specs.Temperature.{decoded as signed}
@@ -31,26 +34,38 @@ respects_limit n = eqb n 6
 abbrev pub counts_jacket : ℕ → Bool
 counts_jacket n = eqb n 7
 
--- "2–3": the "line number", which no other figure depends on
-abbrev pub line_number : List ℕ → ℕ
-line_number b = big_endian b 2 2
+module _ (kind : Kind) (b : List ℕ) where
+  -- "2–3": the "line number", which no other figure depends on; "The sheet's line number grows to four bytes" (02, N7)
+  abbrev pub line_number_as : ℕ
+  line_number_as = big_endian b 2 (2 + longer kind)
 
--- the other fields at the table's offsets
-unfoldable pub decoded : List ℕ → Sheet
-decoded b =
-    record {
-      code = get_or b 0 0;
-      goal = goal_code (get_or b 0 0);
-      flow = flow_of (get_or b 0 0);
-      respects_limit = respects_limit (get_or b 0 0);
-      counts_jacket = counts_jacket (get_or b 0 0);
-      service = get_or b 1 0;
-      line = record { diameter = tenths (big_endian b 4 2); conductivity = big_endian b 10 2; coefficient = big_endian b 12 2 };
-      temperature = signed (big_endian b 6 2);
-      ambient = signed (big_endian b 8 2);
-      economy = record { heat = big_endian b 14 2; hours = big_endian b 16 2; insulation = big_endian b 18 2; share = big_endian b 20 2 };
-      aim = big_endian b 22 2;
-    }
+  -- a field of two bytes behind the line number, by its offset in the table
+  abbrev pub field : ℕ → ℕ
+  field offset = big_endian b (moved kind offset) 2
+
+  -- the other fields at the table's offsets
+  unfoldable pub decoded_as : Sheet
+  decoded_as =
+      record {
+        code = get_or b 0 0;
+        goal = goal_code (get_or b 0 0);
+        flow = flow_of (get_or b 0 0);
+        respects_limit = respects_limit (get_or b 0 0);
+        counts_jacket = counts_jacket (get_or b 0 0);
+        service = get_or b 1 0;
+        line = record { diameter = tenths (field 4); conductivity = field 10; coefficient = field 12 };
+        temperature = signed (field 6);
+        ambient = signed (field 8);
+        economy = record { heat = field 14; hours = field 16; insulation = field 18; share = field 20 };
+        aim = field 22;
+      }
+
+-- those of a standard sheet
+abbrev pub line_number : List ℕ → ℕ
+line_number = line_number_as Standard
+
+abbrev pub decoded : List ℕ → Sheet
+decoded = decoded_as Standard
 
 -- "Offsets 14–21 are used for goal 1 only"; "Goal 5 uses offsets 14–21 as goal 1 does and its aim is zero." (02, N4); "Goal 6 is goal 1
 -- with that second pass; its aim is zero." (02, N5); goal 7 takes its formula "beside goal 1's fields" (02, N6)

@@ -1,9 +1,11 @@
-// The fields of a sheet's 24 bytes.
+// The fields of a sheet's bytes.
 ghost use Rattle.std.specs.Prelude.{◌≡◌, ◌≤◌, length};
-ghost use Rattle.sheet.specs.Sheet.{goal_code, flow_of, respects_limit, counts_jacket, uses_economy, uses_aim, decoded};
+ghost use Rattle.kinds.specs.Kind.{sheet_size};
+ghost use Rattle.sheet.specs.Sheet.{goal_code, flow_of, respects_limit, counts_jacket, uses_economy, uses_aim, decoded_as};
 
 use big_endian::unsigned;
 use heat_flow::HeatFlow;
+use kinds::Kind;
 use lengths::Diameter;
 use line::Line;
 use requirement::EconomyTerms;
@@ -78,7 +80,7 @@ fn counts_jacket(code: u64) -> bool
 
 // The goal's code as it is written and as it is read, the direction of the heat's flow, whether the goal respects the loss limit and
 // whether it counts the jacket, the service, the insulated line, the temperatures t of the pipe and ta of the air, the economy terms, and
-// the aim as it is written. Any 24 bytes are a sheet, so code and service are numbers: refusal 12 is of a number that is no goal or
+// the aim as it is written. Any bytes of the right length are a sheet, so code and service are numbers: refusal 12 is of a number that is no goal or
 // service.
 #[derive(Clone, Copy, Debug, PartialEq, Eq)]
 pub struct Sheet {
@@ -96,13 +98,14 @@ pub struct Sheet {
 }
 
 impl Sheet {
-    // The sheet that 24 bytes are. No `From`: a slice may have any length, which the call tests.
-    #[tactic(auto, unfolding(crate::specs::Sheet::decoded))]
-    pub fn decode(bytes: &[u8]) -> Sheet
-        requires { length bytes.now ≡ 24 }
-        ensures fields { result ≡ decoded bytes.now }
+    // The sheet of a kind that bytes of its length are. No `From`: a slice may have any length, which the call tests.
+    #[tactic(auto, unfolding(crate::specs::Sheet::decoded_as))]
+    pub fn decode(kind: Kind, bytes: &[u8]) -> Sheet
+        requires { length bytes.now ≡ sheet_size kind }
+        ensures fields { result ≡ decoded_as kind bytes.now }
         ensures aim_to { result.aim ≤ 65_535 }
     {
+        let longer = kind.longer();
         let code = bytes[0] as u64;
         Sheet {
             code,
@@ -112,19 +115,19 @@ impl Sheet {
             counts_jacket: counts_jacket(code),
             service: bytes[1] as u64,
             line: Line {
-                diameter: Diameter(unsigned(bytes, 4)),
-                conductivity: unsigned(bytes, 10),
-                coefficient: unsigned(bytes, 12),
+                diameter: Diameter(unsigned(bytes, 4 + longer)),
+                conductivity: unsigned(bytes, 10 + longer),
+                coefficient: unsigned(bytes, 12 + longer),
             },
-            temperature: Temperature::decode(unsigned(bytes, 6)),
-            ambient: Temperature::decode(unsigned(bytes, 8)),
+            temperature: Temperature::decode(unsigned(bytes, 6 + longer)),
+            ambient: Temperature::decode(unsigned(bytes, 8 + longer)),
             economy: EconomyTerms {
-                heat: unsigned(bytes, 14),
-                hours: unsigned(bytes, 16),
-                insulation: unsigned(bytes, 18),
-                share: unsigned(bytes, 20),
+                heat: unsigned(bytes, 14 + longer),
+                hours: unsigned(bytes, 16 + longer),
+                insulation: unsigned(bytes, 18 + longer),
+                share: unsigned(bytes, 20 + longer),
             },
-            aim: unsigned(bytes, 22),
+            aim: unsigned(bytes, 22 + longer),
         }
     }
 }

@@ -12,7 +12,7 @@ told :
     (c : After-is_answer-right) (right : Bool) → right ≡ c.is_answer-right.result →
     respond (case 35 (not right) ∷ []) (c.slot-sheet.result.now ++ c.slot-answer.result.now) ≡ reading c.args.book.layout.plain c.args.book.bytes.now c.args.number
 told c right is =
-    let sheet_there = rw c.sheet_offset-sheet_offset.ensures at c.slot-sheet.ensures.0 in
+    let sheet_there = rw (c.sheet_offset-sheet_offset.ensures, c.sheet_size.ensures) at c.slot-sheet.ensures.0 in
     let answer_there = rw (c.answer_offset-answer_offset.ensures, c.args.book.sound.capacity_is) at c.slot-answer.ensures.0 in
     sym (reading_below c.args.book.sound c.args.number right c.if-book-number.false sheet_there answer_there (is ∙ c.is_answer-right.ensures))
 
