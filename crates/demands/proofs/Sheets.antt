@@ -9,6 +9,7 @@ use native.Mathlib.Omega.{arith}
 use lib.Dec.{eqb}
 use borrow.Author.Tests.{eqb-true, eqb-false}
 use Rattle.std.proofs.lemmas.Bool.{or_parts, or_cases}
+use Rattle.kinds.specs.declared.Kind.{Kind}
 use Rattle.lengths.specs.Ladder.{rungs, thickness_at}
 use Rattle.temperatures.specs.Temperature.{decoded as signed, encoded as twos_complement}
 use Rattle.temperatures.proofs.TwosComplement.{turned_back}
@@ -23,11 +24,11 @@ use Rattle.verdict.proofs.FirstRung.{sufficient_unless, undecided_if, first_with
 use Rattle.answer.specs.declared.Answer.{Answer}
 use Rattle.answer.specs.Answer.{encoded}
 use Rattle.sheet.specs.declared.fields.Sheet.{Sheet}
-use Rattle.sheet.specs.Sheet.{decoded, goal_of}
+use Rattle.sheet.specs.Sheet.{decoded_as, goal_of}
 use Rattle.sheet.specs.Search.{verdicts_by}
 use Rattle.sheet.specs.Passes.{goal_in, check_between, too_close, deciding_pass, verdicts, chosen}
-use Rattle.sheet.specs.Answer.{surface_bound, answer_of, answer}
-use Rattle.sheet.specs.Refusals.{field_cases, ladder_cases, cases, response_to}
+use Rattle.sheet.specs.Answer.{surface_bound, answer_of, answer_as}
+use Rattle.sheet.specs.Refusals.{field_cases_as, ladder_cases, cases_as, response_as}
 use Rattle.sheet.specs.Admitted.{Admitted}
 use Rattle.sheet.proofs.Admitted.{admitted}
 use Rattle.sheet.proofs.Passes.{after_close}
@@ -43,18 +44,18 @@ none_parts [] ds none = (tt, none)
 none_parts (c ∷ cs) ds none = let rest = none_parts cs ds none.1 in ((none.0, rest.0), rest.1)
 
 -- what holds of an answered sheet
-pub record Answered (sheet : List ℕ) : Type 0 where
-  pub admitted : Admitted (decoded sheet)
-  pub found : chosen (decoded sheet) < rungs
-  pub enough : verdicts (decoded sheet) (chosen (decoded sheet)) ≡ Sufficient
-  pub not_close : too_close (check_between (decoded sheet)) ≡ false
+pub record Answered (kind : Kind) (sheet : List ℕ) : Type 0 where
+  pub admitted : Admitted (decoded_as kind sheet)
+  pub found : chosen (decoded_as kind sheet) < rungs
+  pub enough : verdicts (decoded_as kind sheet) (chosen (decoded_as kind sheet)) ≡ Sufficient
+  pub not_close : too_close (check_between (decoded_as kind sheet)) ≡ false
 
-pub answered : (sheet bytes : List ℕ) → response_to sheet ≡ complete bytes → Answered sheet × (answer sheet ≡ bytes)
+pub answered : (kind : Kind) (sheet bytes : List ℕ) → response_as kind sheet ≡ complete bytes → Answered kind sheet × (answer_as kind sheet ≡ bytes)
 unfolding NoneHolds
-answered sheet bytes h =
-    let s = decoded sheet in
-    let got = completed (cases sheet) (answer sheet) bytes h in
-    let none = none_parts (field_cases sheet) (ladder_cases s) got.0 in
+answered kind sheet bytes h =
+    let s = decoded_as kind sheet in
+    let got = completed (cases_as kind sheet) (answer_as kind sheet) bytes h in
+    let none = none_parts (field_cases_as kind sheet) (ladder_cases s) got.0 in
     let not_all : ¬ (chosen s ≡ rungs) = eqb-false _ _ none.1.0 in
     let lt : chosen s < rungs = omega (arith, first_within (verdicts s)) in
     let decided = or_parts _ _ none.1.1.0 in
@@ -75,10 +76,10 @@ unfolding answer_of
 answer_thickness s = encoded_thickness (answer_of s (chosen s)) (omega arith)
 
 -- the answer to an answered sheet, byte by byte
-answer_to : (sheet : List ℕ) → Answered sheet → AnswerTo (decoded sheet) (answer sheet)
-unfolding decoded bytes_of encoded answer_of surface_bound
-answer_to sheet known =
-    let s = decoded sheet in
+answer_to : (kind : Kind) (sheet : List ℕ) → Answered kind sheet → AnswerTo (decoded_as kind sheet) (answer_as kind sheet)
+unfolding decoded_as bytes_of encoded answer_of surface_bound
+answer_to kind sheet known =
+    let s = decoded_as kind sheet in
     record {
       found = record { rung = chosen s; on_ladder = known.found; sufficient = known.enough; first = misses_before (verdicts s) };
       pass = decides s (check_between s) refl known.not_close;
@@ -91,32 +92,32 @@ answer_to sheet known =
       bound = encoded_bound (answer_of s (chosen s)) (bound_fits s.flow s.temperature s.ambient _ (omega (arith, known.admitted.temperature_to)) (omega (arith, known.admitted.ambient_to)));
     }
 
-module _ (sheet : List ℕ) where
+module _ (kind : Kind) (sheet : List ℕ) where
   abbrev s : Sheet
-  s = decoded sheet
+  s = decoded_as kind sheet
 
-  only_17 : response_to sheet ≡ refused 17 → NoneHolds (field_cases sheet) × Seventeen s
+  only_17 : response_as kind sheet ≡ refused 17 → NoneHolds (field_cases_as kind sheet) × Seventeen s
   unfolding absent
   only_17 h =
-      let got = behind 17 (field_cases sheet) (ladder_cases s) (answer sheet) refl h in
-      let all : chosen s ≡ rungs = eqb-true _ _ (front 17 (eqb (chosen s) rungs) (case 18 (open_or_close s) ∷ []) (answer sheet) refl got.1) in
+      let got = behind 17 (field_cases_as kind sheet) (ladder_cases s) (answer_as kind sheet) refl h in
+      let all : chosen s ≡ rungs = eqb-true _ _ (front 17 (eqb (chosen s) rungs) (case 18 (open_or_close s) ∷ []) (answer_as kind sheet) refl got.1) in
       (got.0, record { pass = deciding_pass s; reached = reaches s (deciding_pass s) refl; all_miss = λ r lt. misses_before (verdicts s) r (omega arith) })
 
-  when_17 : NoneHolds (field_cases sheet) × Seventeen s → response_to sheet ≡ refused 17
+  when_17 : NoneHolds (field_cases_as kind sheet) × Seventeen s → response_as kind sheet ≡ refused 17
   when_17 h =
       let goal = goal_in s h.1.pass in
       let is = decided s h.1.pass h.1.reached (none_fails s goal h.1.all_miss) in
-      later (field_cases sheet) (ladder_cases s) (answer sheet) h.0 ∙ all_insufficient s (answer sheet) (rw is (first_none (verdicts_by s goal) h.1.all_miss))
+      later (field_cases_as kind sheet) (ladder_cases s) (answer_as kind sheet) h.0 ∙ all_insufficient s (answer_as kind sheet) (rw is (first_none (verdicts_by s goal) h.1.all_miss))
 
-  only_18 : response_to sheet ≡ refused 18 → NoneHolds (field_cases sheet) × Eighteen s
+  only_18 : response_as kind sheet ≡ refused 18 → NoneHolds (field_cases_as kind sheet) × Eighteen s
   unfolding absent NoneHolds
   only_18 h =
-      let got = behind 18 (field_cases sheet) (ladder_cases s) (answer sheet) refl h in
-      let end = behind 18 (case 17 (eqb (chosen s) rungs) ∷ []) (case 18 (open_or_close s) ∷ []) (answer sheet) refl got.1 in
+      let got = behind 18 (field_cases_as kind sheet) (ladder_cases s) (answer_as kind sheet) refl h in
+      let end = behind 18 (case 17 (eqb (chosen s) rungs) ∷ []) (case 18 (open_or_close s) ∷ []) (answer_as kind sheet) refl got.1 in
       let some : ¬ (chosen s ≡ rungs) = eqb-false _ _ end.0.0 in
       let lt : chosen s < rungs = omega (arith, first_within (verdicts s)) in (
         got.0,
-        elim (or_cases _ _ (front 18 (open_or_close s) [] (answer sheet) refl end.1)) [
+        elim (or_cases _ _ (front 18 (open_or_close s) [] (answer_as kind sheet) refl end.1)) [
           | inl u ↦ open_in (deciding_pass s) (reaches s (deciding_pass s) refl) (chosen s, lt, undecided_if _ u, misses_before (verdicts s))
           | inr c ↦ check_too_close (checked s Undecided (after_close (check_between s) c))
         ],
@@ -128,15 +129,15 @@ module _ (sheet : List ℕ) where
       rw (decided s p reached (open_fails s goal f), open_first s goal f) (f.1, rw f.2)
   when_open (check_too_close c) = rw (check_is s Undecided c, found_first s (goal_of s) c.found) (c.found.on_ladder, or-true _)
 
-  when_18 : NoneHolds (field_cases sheet) × Eighteen s → response_to sheet ≡ refused 18
+  when_18 : NoneHolds (field_cases_as kind sheet) × Eighteen s → response_as kind sheet ≡ refused 18
   when_18 h =
       let is = when_open h.1 in
-      later (field_cases sheet) (ladder_cases s) (answer sheet) h.0 ∙ first_undecided s (answer sheet) is.0 is.1
+      later (field_cases_as kind sheet) (ladder_cases s) (answer_as kind sheet) h.0 ∙ first_undecided s (answer_as kind sheet) is.0 is.1
 
-pub sheet_demand_2 : (sheet : List ℕ) → SheetDemand2 sheet
-sheet_demand_2 sheet =
+pub sheet_demand_2 : (kind : Kind) (sheet : List ℕ) → SheetDemand2 kind sheet
+sheet_demand_2 kind sheet =
     record {
-      answered = λ bytes h. (let got = answered sheet bytes h in rw (← got.1) (answer_to sheet got.0));
-      seventeen = (only_17 sheet, when_17 sheet);
-      eighteen = (only_18 sheet, when_18 sheet);
+      answered = λ bytes h. (let got = answered kind sheet bytes h in rw (← got.1) (answer_to kind sheet got.0));
+      seventeen = (only_17 kind sheet, when_17 kind sheet);
+      eighteen = (only_18 kind sheet, when_18 kind sheet);
     }

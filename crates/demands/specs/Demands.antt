@@ -1,7 +1,8 @@
--- The three demands of 00, "What the book must rest on", and that the surface bound holds.
+-- The three demands of 00, "What the book must rest on", and that the surface bound holds, for both kinds of sheets and books.
 -- Assumes nothing.
 use Rattle.std.specs.Prelude.{ℕ, ◌+◌, ◌-◌, ◌≤◌, ◌<◌, ◌≡◌, ◌⊎◌, ◌↔◌, true, Some, List, [], ◌∷◌, ◌++◌, length, get_or}
 use Rattle.fractions.specs.Fraction.{Fraction, ◌over◌, plus, ◌≼◌}
+use Rattle.kinds.specs.declared.Kind.{Kind}
 use Rattle.lengths.specs.declared.units.Diameter.{Diameter}
 use Rattle.lengths.specs.declared.units.Thickness.{Thickness}
 use Rattle.lengths.specs.Units.{millimetres}
@@ -25,17 +26,18 @@ use Rattle.answer.specs.declared.Pass.{Pass}
 use Rattle.answer.specs.declared.Pass.TheVariants.{First, Second}
 use Rattle.answer.specs.Answer.{pass_code, shape_code, check_code, loss_code}
 use Rattle.sheet.specs.declared.fields.Sheet.{Sheet}
-use Rattle.sheet.specs.Sheet.{decoded, difference, goal_of}
+use Rattle.sheet.specs.Sheet.{decoded_as, difference, goal_of}
 use Rattle.sheet.specs.Search.{criterion_of, verdicts_by}
 use Rattle.sheet.specs.Checks.{loss_check, surface_check}
 use Rattle.sheet.specs.Passes.{goal_in, deciding_pass, deciding_goal}
-use Rattle.sheet.specs.Answer.{surface_difference, surface_bound, answer}
-use Rattle.sheet.specs.Refusals.{field_cases, cases, response_to}
+use Rattle.sheet.specs.Answer.{surface_difference, surface_bound, answer_as}
+use Rattle.sheet.specs.Refusals.{field_cases_as, cases_as, response_as}
 use Rattle.layout.specs.declared.offsets.Layout.{Layout}
-use Rattle.layout.specs.Layout.{standard}
+use Rattle.layout.specs.Layout.{layout_of}
+use Rattle.layout.specs.OwnKind.{own_kind}
 use Rattle.layout.specs.Sizes.{capacity, count}
 use Rattle.book.specs.Book.{stored_sheet, stored_answer}
-use Rattle.book.specs.Refusals.{making_cases, filing_cases, reading_cases, making, made, filing, filed, reading}
+use Rattle.book.specs.Refusals.{making_cases, filing_cases, reading_cases, making, made, filing, filed, reading, filing_either, filed_either, reading_either}
 
 -- "Tests run in this order." (01, "Sent back because of the sheet"); "43, after 16" (02, N6)
 abbrev pub sheet_order : List ℕ
@@ -43,14 +45,15 @@ sheet_order = 11 ∷ 12 ∷ 13 ∷ 14 ∷ 15 ∷ 16 ∷ 43 ∷ 17 ∷ 18 ∷ []
 
 -- Demand 1: "The answer to every sheet and to every book, sound or damaged, is the number of the first listed refusal, in the listed order,
 -- whose stated case holds, and is complete when none holds; a refused filing changes no byte of the book, and a caller has nothing to check
--- beforehand." This says it of each of the four calls on sheets and books, for every layout; no call has a `requires`.
+-- beforehand." This says it of the calls that answer, make, file and read, for both kinds of sheets and every layout of a book; no call has
+-- a `requires`.
 pub record Demand1 : Type 0 where
-  pub of_sheets : (sheet : List ℕ) → FirstOrComplete (cases sheet) (answer sheet) (response_to sheet)
+  pub of_sheets : (kind : Kind) (sheet : List ℕ) → FirstOrComplete (cases_as kind sheet) (answer_as kind sheet) (response_as kind sheet)
   pub of_making : (l : Layout) (book : List ℕ) (c : ℕ) → FirstOrComplete (making_cases l book c) [] (making l book c)
-  pub of_filing : (l : Layout) (book sheet : List ℕ) → FirstOrComplete (filing_cases l book sheet) (answer sheet) (filing l book sheet)
+  pub of_filing : (l : Layout) (book sheet : List ℕ) → FirstOrComplete (filing_cases l book sheet) (answer_as l.sheets sheet) (filing l book sheet)
   pub of_reading : (l : Layout) (book : List ℕ) (e : ℕ) → FirstOrComplete (reading_cases l book e) (stored_sheet l book e ++ stored_answer l book e) (reading l book e)
   -- the listed orders
-  pub order_of_sheets : (sheet : List ℕ) → numbers (cases sheet) ≡ sheet_order
+  pub order_of_sheets : (kind : Kind) (sheet : List ℕ) → numbers (cases_as kind sheet) ≡ sheet_order
   pub making_order : (l : Layout) (book : List ℕ) (c : ℕ) → numbers (making_cases l book c) ≡ (31 ∷ [])
   pub filing_order : (l : Layout) (book sheet : List ℕ) → numbers (filing_cases l book sheet) ≡ (31 ∷ 32 ∷ 34 ∷ sheet_order)
   pub reading_order : (l : Layout) (book : List ℕ) (e : ℕ) → numbers (reading_cases l book e) ≡ (31 ∷ 32 ∷ 33 ∷ 35 ∷ [])
@@ -117,47 +120,50 @@ pub data Eighteen (s : Sheet) : Type 0 where
   check_too_close : Checked s Undecided → Eighteen s
 
 -- "refusals 17 and 18 come in their stated cases only"
-pub record SheetDemand2 (sheet : List ℕ) : Type 0 where
-  pub answered : (bytes : List ℕ) → response_to sheet ≡ complete bytes → AnswerTo (decoded sheet) bytes
-  pub seventeen : (response_to sheet ≡ refused 17) ↔ (NoneHolds (field_cases sheet) × Seventeen (decoded sheet))
-  pub eighteen : (response_to sheet ≡ refused 18) ↔ (NoneHolds (field_cases sheet) × Eighteen (decoded sheet))
+pub record SheetDemand2 (kind : Kind) (sheet : List ℕ) : Type 0 where
+  pub answered : (bytes : List ℕ) → response_as kind sheet ≡ complete bytes → AnswerTo (decoded_as kind sheet) bytes
+  pub seventeen : (response_as kind sheet ≡ refused 17) ↔ (NoneHolds (field_cases_as kind sheet) × Seventeen (decoded_as kind sheet))
+  pub eighteen : (response_as kind sheet ≡ refused 18) ↔ (NoneHolds (field_cases_as kind sheet) × Eighteen (decoded_as kind sheet))
 
 -- the book after the filing of each sheet of a list, refused ones among them
-unfoldable pub filed_all : Layout → List ℕ → List (List ℕ) → List ℕ
-filed_all l book [] = book
-filed_all l book (sheet ∷ sheets) = filed_all l (filed l book sheet) sheets
+unfoldable pub filed_all : List ℕ → List (List ℕ) → List ℕ
+filed_all book [] = book
+filed_all book (sheet ∷ sheets) = filed_all (filed_either book sheet) sheets
 
--- "an entry filed in a new book reads back equal, however many are filed after it": for every capacity, whatever was filed before
-abbrev pub ReadsBack : Layout → Type 0
-ReadsBack l =
+-- "an entry filed in a new book reads back equal, however many are filed after it": for both kinds and every capacity, whatever was filed
+-- before
+abbrev pub ReadsBack : Kind → Type 0
+ReadsBack kind =
+    let l = layout_of kind in
     (lent : List ℕ) (c : ℕ) → making l lent c ≡ complete [] →
     (before : List (List ℕ)) (sheet bytes : List ℕ) →
-    let book = filed_all l (made l lent c) before in
-    filing l book sheet ≡ complete bytes →
+    let book = filed_all (made l lent c) before in
+    filing_either book sheet ≡ complete bytes →
     (later : List (List ℕ)) →
-    let kept = filed_all l (filed l book sheet) later in
+    let kept = filed_all (filed_either book sheet) later in
     let e = count l book in
-    (reading l kept e ≡ complete (sheet ++ bytes)) × (stored_sheet l kept e ≡ sheet) × (stored_answer l kept e ≡ bytes)
+    (reading_either kept e ≡ complete (sheet ++ bytes)) × (stored_sheet l kept e ≡ sheet) × (stored_answer l kept e ≡ bytes)
 
--- and such a book, of capacity c, takes c sheets: it starts empty and keeps its capacity; while there is room the sheet alone decides, and
--- each sheet that is filed counts one
-pub record TakesSheets (l : Layout) (lent : List ℕ) (c : ℕ) : Type 0 where
-  pub starts_empty : count l (made l lent c) ≡ 0
-  pub keeps_capacity : (before : List (List ℕ)) → capacity l (filed_all l (made l lent c) before) ≡ c
+-- and such a book, of capacity c, takes c sheets: it starts empty, and keeps its kind and its capacity; while there is room the sheet alone
+-- decides, and each sheet that is filed counts one
+pub record TakesSheets (kind : Kind) (lent : List ℕ) (c : ℕ) : Type 0 where
+  pub starts_empty : count (layout_of kind) (made (layout_of kind) lent c) ≡ 0
+  pub keeps_kind : (before : List (List ℕ)) → own_kind (filed_all (made (layout_of kind) lent c) before) ≡ kind
+  pub keeps_capacity : (before : List (List ℕ)) → capacity (layout_of kind) (filed_all (made (layout_of kind) lent c) before) ≡ c
   pub sheet_decides :
       (before : List (List ℕ)) (sheet : List ℕ) →
-      let book = filed_all l (made l lent c) before in
-      count l book < c → filing l book sheet ≡ response_to sheet
+      let book = filed_all (made (layout_of kind) lent c) before in
+      count (layout_of kind) book < c → filing_either book sheet ≡ response_as kind sheet
   pub counts_one :
       (before : List (List ℕ)) (sheet bytes : List ℕ) →
-      let book = filed_all l (made l lent c) before in
-      filing l book sheet ≡ complete bytes → count l (filed l book sheet) ≡ count l book + 1
+      let book = filed_all (made (layout_of kind) lent c) before in
+      filing_either book sheet ≡ complete bytes → count (layout_of kind) (filed_either book sheet) ≡ count (layout_of kind) book + 1
 
 -- Demand 2, of sheets and of the book
 pub record Demand2 : Type 0 where
-  pub of_sheets : (sheet : List ℕ) → SheetDemand2 sheet
-  pub reads_back : ReadsBack standard
-  pub takes_sheets : (lent : List ℕ) (c : ℕ) → making standard lent c ≡ complete [] → TakesSheets standard lent c
+  pub of_sheets : (kind : Kind) (sheet : List ℕ) → SheetDemand2 kind sheet
+  pub reads_back : (kind : Kind) → ReadsBack kind
+  pub takes_sheets : (kind : Kind) (lent : List ℕ) (c : ℕ) → making (layout_of kind) lent c ≡ complete [] → TakesSheets kind lent c
 
 -- the rungs that demand 3 speaks of, k being the thickness given: "every rung of the ladder" (00); for goal 7 "demand 3 runs over the rungs
 -- from 0 up to the answer, that one included, and no others" (02, N6)
@@ -171,8 +177,8 @@ HeldTo s k r = s.counts_jacket ≡ true → (thickness_at r).0 ≤ k.0
 -- (02, N5). On a flat wall `provided_exactly` reads no sum: "there the same holds with the exact equation alone judging both rungs".
 abbrev pub Demand3 : Type 0
 Demand3 =
-    (sheet bytes : List ℕ) → response_to sheet ≡ complete bytes → (m : ℕ) → 1 ≤ m → (r : ℕ) → r < rungs →
-    let s = decoded sheet in
+    (kind : Kind) (sheet bytes : List ℕ) → response_as kind sheet ≡ complete bytes → (m : ℕ) → 1 ≤ m → (r : ℕ) → r < rungs →
+    let s = decoded_as kind sheet in
     let criterion = criterion_of s (deciding_goal s) in
     HeldTo s (millimetres (big_endian bytes 2 2)) r →
     (big_endian bytes 2 2 ≡ (thickness_at r).0) ↔
@@ -194,8 +200,8 @@ NotBeyond Inward ta d bound = plus (bound.0 over 1) d ≼ ta.0 over 1
 -- does not lie beyond it.
 abbrev pub SurfaceBound : Type 0
 SurfaceBound =
-    (sheet bytes : List ℕ) → response_to sheet ≡ complete bytes → (m : ℕ) → 1 ≤ m →
-    let s = decoded sheet in
+    (kind : Kind) (sheet bytes : List ℕ) → response_as kind sheet ≡ complete bytes → (m : ℕ) → 1 ≤ m →
+    let s = decoded_as kind sheet in
     let k = millimetres (big_endian bytes 2 2) in
     let bound = signed (big_endian bytes 6 2) in
     NotBeyond s.flow s.ambient (surface_difference_exactly (lower_sum m) s k) bound × NotBeyond s.flow s.ambient (surface_difference_exactly (upper_sum m) s k) bound
@@ -204,8 +210,8 @@ SurfaceBound =
 -- of have by either sum, nor of how far the surface lies beyond the air, for under-have or for exact have. And Δ is above 0.
 abbrev pub Denominators : Type 0
 Denominators =
-    (sheet bytes : List ℕ) → response_to sheet ≡ complete bytes → (m : ℕ) → 1 ≤ m → (r : ℕ) →
-    let s = decoded sheet in
+    (kind : Kind) (sheet bytes : List ℕ) → response_as kind sheet ≡ complete bytes → (m : ℕ) → 1 ≤ m → (r : ℕ) →
+    let s = decoded_as kind sheet in
     let k = thickness_at r in
     (0 < difference s) × IsFraction (criterion_of s (deciding_goal s) k) ×
     (0 < (provided_exactly (lower_sum m) s.line k).den) × (0 < (provided_exactly (upper_sum m) s.line k).den) ×
