@@ -17,7 +17,7 @@ use Rattle.verdict.specs.Verdict.{first_not_insufficient}
 use Rattle.jacket.specs.Jacket.{jacketed}
 use Rattle.answer.specs.Answer.{encoded}
 use Rattle.limits.specs.Limits.{neighbours, loss_limit}
-use Rattle.sheet.specs.Sheet.{decoded}
+use Rattle.sheet.specs.Sheet.{decoded_as}
 use Rattle.sheet.specs.Fields.{first_fault}
 use Rattle.sheet.specs.Checks.{loss_check, surface_check}
 use Rattle.sheet.specs.Passes.{check_between}
@@ -27,7 +27,7 @@ use Rattle.worked.proofs.Examples.{root_low, root_high, low, high}
 use Rattle.method.specs.Method.{Cylinder, Hotter, Between, FlatWall, BetweenRows, SecondPass, WithJacket, ColdLine, ColdWall, Entry, Method}
 
 the_cylinder : Cylinder
-unfolding summed lower_step upper_step least insulation film insulation_bounds film_bounds provided requirement enclosing first_not_insufficient big_endian bytes_of decoded neighbours loss_limit loss_check surface_check check_between surface_bound encoded answer_of first_fault respond
+unfolding summed lower_step upper_step least insulation film insulation_bounds film_bounds provided requirement enclosing first_not_insufficient big_endian bytes_of decoded_as neighbours loss_limit loss_check surface_check check_between surface_bound encoded answer_of first_fault respond
 the_cylinder =
     record {
       signed = refl;
@@ -54,7 +54,7 @@ the_cylinder =
     }
 
 the_same_hotter : Hotter
-unfolding summed lower_step upper_step least insulation film insulation_bounds film_bounds provided requirement enclosing first_not_insufficient big_endian bytes_of decoded neighbours loss_limit flat_map loss_check surface_check check_between surface_bound encoded answer_of first_fault respond
+unfolding summed lower_step upper_step least insulation film insulation_bounds film_bounds provided requirement enclosing first_not_insufficient big_endian bytes_of decoded_as neighbours loss_limit flat_map loss_check surface_check check_between surface_bound encoded answer_of first_fault respond
 the_same_hotter =
     record {
       required = refl;
@@ -83,7 +83,7 @@ between_millimetres =
     }
 
 the_flat_wall : FlatWall
-unfolding summed cut_sum lower_step upper_step least insulation film insulation_bounds film_bounds provided requirement enclosing first_not_insufficient big_endian bytes_of decoded neighbours loss_limit loss_check surface_check check_between surface_bound encoded answer_of first_fault respond
+unfolding summed cut_sum lower_step upper_step least insulation film insulation_bounds film_bounds provided requirement enclosing first_not_insufficient big_endian bytes_of decoded_as neighbours loss_limit loss_check surface_check check_between surface_bound encoded answer_of first_fault respond
 the_flat_wall =
     record {
       at_0 = refl;
@@ -99,7 +99,7 @@ the_flat_wall =
     }
 
 between_rows : BetweenRows
-unfolding summed lower_step upper_step least insulation film insulation_bounds film_bounds provided requirement enclosing first_not_insufficient big_endian bytes_of decoded neighbours loss_limit flat_map loss_check surface_check check_between surface_bound encoded answer_of first_fault respond
+unfolding summed lower_step upper_step least insulation film insulation_bounds film_bounds provided requirement enclosing first_not_insufficient big_endian bytes_of decoded_as neighbours loss_limit flat_map loss_check surface_check check_between surface_bound encoded answer_of first_fault respond
 between_rows =
     record {
       required = refl;
@@ -127,7 +127,7 @@ cheap_high : ceiling_root radicand ≡ 30_323_345
 cheap_high = root_high radicand 30_323_344 (omega arith) (omega arith) (omega arith)
 
 a_second_pass : SecondPass
-unfolding summed lower_step upper_step least insulation film insulation_bounds film_bounds provided requirement enclosing first_not_insufficient big_endian bytes_of decoded neighbours loss_limit loss_check surface_check check_between surface_bound encoded answer_of first_fault respond
+unfolding summed lower_step upper_step least insulation film insulation_bounds film_bounds provided requirement enclosing first_not_insufficient big_endian bytes_of decoded_as neighbours loss_limit loss_check surface_check check_between surface_bound encoded answer_of first_fault respond
 a_second_pass =
     record {
       product = refl;
@@ -152,7 +152,7 @@ a_second_pass =
     }
 
 the_jacket : WithJacket
-unfolding summed lower_step upper_step least insulation film insulation_bounds film_bounds provided jacketed first_not_insufficient big_endian bytes_of decoded neighbours loss_limit loss_check surface_check check_between surface_bound encoded answer_of first_fault respond
+unfolding summed lower_step upper_step least insulation film insulation_bounds film_bounds provided jacketed first_not_insufficient big_endian bytes_of decoded_as neighbours loss_limit loss_check surface_check check_between surface_bound encoded answer_of first_fault respond
 the_jacket =
     record {
       required_0 = refl;
@@ -166,16 +166,16 @@ the_jacket =
     }
 
 the_cold_line : ColdLine
-unfolding summed lower_step upper_step least insulation film insulation_bounds film_bounds provided requirement enclosing first_not_insufficient big_endian bytes_of decoded neighbours loss_limit loss_check surface_check check_between surface_bound encoded answer_of first_fault respond
+unfolding summed lower_step upper_step least insulation film insulation_bounds film_bounds provided requirement enclosing first_not_insufficient big_endian bytes_of decoded_as neighbours loss_limit loss_check surface_check check_between surface_bound encoded answer_of first_fault respond
 the_cold_line = record { difference = refl; required = rw (low, high); checks = (refl, refl); bound = refl; answer = rw (low, high) }
 
 the_cold_wall : ColdWall
-unfolding summed lower_step upper_step least insulation film insulation_bounds film_bounds provided requirement enclosing first_not_insufficient big_endian bytes_of decoded neighbours loss_limit loss_check surface_check check_between surface_bound encoded answer_of first_fault respond
+unfolding summed lower_step upper_step least insulation film insulation_bounds film_bounds provided requirement enclosing first_not_insufficient big_endian bytes_of decoded_as neighbours loss_limit loss_check surface_check check_between surface_bound encoded answer_of first_fault respond
 the_cold_wall =
     record { temperatures = (refl, refl, refl); differences = (refl, refl); required = refl; at_20 = refl; at_30 = refl; bound = refl; answer = refl }
 
 an_entry : Entry
-unfolding summed lower_step upper_step least insulation film insulation_bounds film_bounds provided requirement enclosing first_not_insufficient big_endian bytes_of decoded neighbours loss_limit loss_check surface_check check_between surface_bound encoded answer_of first_fault respond same_bytes
+unfolding summed lower_step upper_step least insulation film insulation_bounds film_bounds provided requirement enclosing first_not_insufficient big_endian bytes_of decoded_as neighbours loss_limit loss_check surface_check check_between surface_bound encoded answer_of first_fault respond same_bytes
 an_entry = record { size = refl; offsets = (refl, refl, refl); sizes = (refl, refl); read = refl }
 
 pub method : Method

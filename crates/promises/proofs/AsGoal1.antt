@@ -8,6 +8,7 @@ use mathlib.Core.List.{List, ◌∷◌, ◌++◌}
 use Prim.Native.Nat.{ℕ}
 use lib.Dec.{eqb}
 use lib.ListN.{get_or}
+use Rattle.kinds.specs.declared.Kind.TheVariants.{Standard}
 use Rattle.std.specs.Prelude.{Option, Some, None}
 use Rattle.lengths.specs.Ladder.{thickness_at}
 use Rattle.refusals.specs.Cases.{Case, NoneHolds}
@@ -19,7 +20,7 @@ use Rattle.verdict.specs.declared.Verdict.{Verdict}
 use Rattle.verdict.specs.declared.Verdict.TheVariants.{Sufficient, Insufficient, Undecided}
 use Rattle.answer.specs.Answer.{loss_code}
 use Rattle.sheet.specs.declared.fields.Sheet.{Sheet}
-use Rattle.sheet.specs.Sheet.{decoded, goal_of}
+use Rattle.sheet.specs.Sheet.{decoded, decoded_as, goal_of}
 use Rattle.sheet.specs.Fields.{first_fault}
 use Rattle.sheet.specs.Checks.{loss_check, surface_check}
 use Rattle.sheet.specs.Passes.{succeeds, first_check, check_between}
@@ -51,17 +52,17 @@ module _ (rest : List ℕ) where
   s₆ = decoded (6 ∷ rest)
 
   pub same_fields : field_cases (6 ∷ rest) ≡ field_cases (1 ∷ rest)
-  unfolding big_endian decoded first_fault
+  unfolding big_endian decoded_as first_fault
   same_fields = refl
 
   -- where no check sends goal 6 into a second pass, it gives what goal 1 gives
   as_1 : (c : Option Verdict) → check_between s₆ ≡ c → (c ≡ None) ⊎ (c ≡ Some Sufficient) → response_to (6 ∷ rest) ≡ response_to (1 ∷ rest)
-  unfolding respond big_endian decoded first_fault check_between loss_check surface_check answer_of surface_bound
+  unfolding respond big_endian decoded_as first_fault check_between loss_check surface_check answer_of surface_bound
   as_1 c is (inl e) = rw (is, e) refl
   as_1 c is (inr e) = rw (is, e) refl
 
   pub refused_alike : (n : ℕ) → response_to (1 ∷ rest) ≡ refused n → response_to (6 ∷ rest) ≡ refused n
-  unfolding big_endian decoded check_between
+  unfolding big_endian decoded_as check_between
   refused_alike n h =
       elim (dichotomy (succeeds s₁ (goal_of s₁))) [
         | inr t ↦
@@ -76,14 +77,14 @@ module _ (rest : List ℕ) where
   -- the goal 1 sheet being answered
   module _ (bytes : List ℕ) (h : response_to (1 ∷ rest) ≡ complete bytes) where
     got : AnswerTo s₁ bytes
-    got = (sheet_demand_2 (1 ∷ rest)).answered bytes h
+    got = (sheet_demand_2 Standard (1 ∷ rest)).answered bytes h
 
     found_1 : Found s₁ (goal_of s₁)
-    unfolding big_endian decoded check_between
+    unfolding big_endian decoded_as check_between
     found_1 = got.found
 
     check : get_or bytes 4 0 ≡ loss_code (check_between s₆)
-    unfolding found_1 big_endian decoded check_between loss_check
+    unfolding found_1 big_endian decoded_as check_between loss_check
     check =
         got.loss ∙ ap loss_code (
         ap (λ (r : ℕ). loss_check s₁ (provided s₁.line (thickness_at r))) (sym (found_first s₁ (goal_of s₁) found_1))
@@ -102,7 +103,7 @@ module _ (rest : List ℕ) where
 
     pub close : get_or bytes 4 0 ≡ 2 → response_to (6 ∷ rest) ≡ refused 18
     unfolding check_by
-    close e = (sheet_demand_2 (6 ∷ rest)).eighteen.1 (rw same_fields no_fault, check_too_close (checked s₆ Undecided (check_is 2 e)))
+    close e = (sheet_demand_2 Standard (6 ∷ rest)).eighteen.1 (rw same_fields no_fault, check_too_close (checked s₆ Undecided (check_is 2 e)))
 
     pub check_over : get_or bytes 4 0 ≡ 1 → check_between s₆ ≡ Some Insufficient
     unfolding check_by

@@ -16,7 +16,7 @@ use Rattle.verdict.specs.declared.Verdict.TheVariants.{Insufficient}
 use Rattle.answer.specs.Answer.{encoded}
 use Rattle.limits.proofs.Size.{limit_size, some_size}
 use Rattle.sheet.specs.declared.fields.Sheet.{Sheet}
-use Rattle.sheet.specs.Sheet.{decoded}
+use Rattle.sheet.specs.Sheet.{decoded, decoded_as}
 use Rattle.sheet.specs.Fields.{codes, line_fields, economy_fields, aim_fields, first_fault}
 use Rattle.sheet.proofs.FirstFault.{none_before}
 use Rattle.sheet.specs.Checks.{loss_check, surface_check}
@@ -60,7 +60,7 @@ module _ (r : List ℕ) where
   s₂ = decoded (loss_sheet rest a)
 
   same_line : (s₂.service ≡ s₆.service) × (s₂.line ≡ s₆.line) × (s₂.temperature ≡ s₆.temperature) × (s₂.ambient ≡ s₆.ambient)
-  unfolding big_endian bytes_of decoded rest by_places
+  unfolding big_endian bytes_of decoded_as rest by_places
   same_line = (refl, refl, refl, refl)
 
   module _ (printed : Printed s₆) where
@@ -68,27 +68,27 @@ module _ (r : List ℕ) where
     aim_from = second_aim_some s₆ printed
 
     aim_is : s₂.aim ≡ a
-    unfolding big_endian bytes_of decoded rest by_places
+    unfolding big_endian bytes_of decoded_as rest by_places
     aim_is = omega (arith, (some_size (limit_size s₆.service s₆.temperature) printed).1)
 
     -- no case of the fields holds for the loss sheet, where none does for the sheet of goal 1
     fields_2 : NoneHolds (field_cases (1 ∷ rest)) → NoneHolds (field_cases (loss_sheet rest a))
-    unfolding NoneHolds first_fault big_endian bytes_of decoded rest by_places
+    unfolding NoneHolds first_fault big_endian bytes_of decoded_as rest by_places
     fields_2 none =
         (refl, (none.1.0, (none_before 13 (codes s₂ ++ line_fields s₂) (economy_fields true s₁ ++ aim_fields false s₁) none.1.1.0, (refl, (none.1.1.1.1.0, (ne_eqb s₂.aim 0 (λ e. omega (arith, aim_is, aim_from, e)), (refl, tt)))))))
 
     none_2 : check_between s₂ ≡ None
-    unfolding decoded check_between
+    unfolding decoded_as check_between
     none_2 = refl
 
     -- the loss check being over, both sheets have the same cases of the ladder, and the same answer but for byte 0
     module _ (is : check_between s₆ ≡ Some Insufficient) where
       same_cases : ladder_cases s₆ ≡ ladder_cases s₂
-      unfolding big_endian bytes_of decoded rest by_places
+      unfolding big_endian bytes_of decoded_as rest by_places
       same_cases = rw (is, none_2, aim_is) refl
 
       same_bytes : answer (6 ∷ rest) ≡ (1 ∷ drop 1 (answer (loss_sheet rest a)))
-      unfolding big_endian bytes_of decoded encoded answer_of loss_check surface_check surface_bound rest by_places
+      unfolding big_endian bytes_of decoded_as encoded answer_of loss_check surface_check surface_bound rest by_places
       same_bytes = rw (is, none_2, aim_is) refl
 
   over_by_places : Over rest

@@ -8,6 +8,7 @@ use Prim.Native.Nat.{ℕ, ◌≤◌, ◌<◌}
 use native.Mathlib.Omega.{arith}
 use lib.ListN.{length, get_or}
 use borrow.Author.Tests.{le-leb}
+use Rattle.kinds.specs.declared.Kind.TheVariants.{Standard}
 use Rattle.std.specs.Prelude.{None}
 use Rattle.fractions.specs.declared.Bounds.{Bounds}
 use Rattle.temperatures.specs.declared.Temperature.{Temperature}
@@ -20,7 +21,7 @@ use Rattle.limits.specs.Limits.{surface_limit}
 use Rattle.limits.proofs.Rows.{none_below}
 use Rattle.limits.proofs.SurfaceLimit.{limit_above}
 use Rattle.sheet.specs.declared.fields.Sheet.{Sheet}
-use Rattle.sheet.specs.Sheet.{uses_economy, decoded, goal_of}
+use Rattle.sheet.specs.Sheet.{uses_economy, decoded, decoded_as, goal_of}
 use Rattle.sheet.specs.Search.{requirement_of}
 use Rattle.sheet.specs.Passes.{chosen}
 use Rattle.sheet.specs.Checks.{loss_check, surface_check}
@@ -51,14 +52,14 @@ module _ (s : Sheet) (cold : s.flow ≡ Inward) (in_range : Admitted s) (p : Bou
 
 module _ (sheet bytes : List ℕ) (h : ColdAnswer sheet bytes) where
   inward : (decoded sheet).flow ≡ Inward
-  unfolding decoded
+  unfolding decoded_as
   inward = ⊎_elim (λ four. rw four) (λ five. rw five) h.cold
 
   in_range : Admitted (decoded sheet)
-  in_range = (answered sheet bytes h.answered).0.admitted
+  in_range = (answered Standard sheet bytes h.answered).0.admitted
 
   got : AnswerTo (decoded sheet) bytes
-  got = (sheet_demand_2 sheet).answered bytes h.answered
+  got = (sheet_demand_2 Standard sheet).answered bytes h.answered
 
   cold_checks : (length bytes ≡ 8) × (get_or bytes 5 0 ≡ 0) × (get_or bytes 4 0 ≡ 3)
   cold_checks = (got.size, got.surface ∙ ap check_code (within_surface_limit (decoded sheet) inward in_range _), got.loss ∙ ap loss_code (no_loss_limit (decoded sheet) inward in_range _))

@@ -7,6 +7,7 @@ use native.Mathlib.Nat.{pos_of_ne-zero}
 use native.Mathlib.Omega.{arith}
 use lib.ListN.{length, get_or}
 use borrow.Author.Tests.{le-leb, lt-leb}
+use Rattle.kinds.specs.declared.Kind.TheVariants.{Standard}
 use Rattle.lengths.specs.declared.units.Thickness.{Thickness}
 use Rattle.lengths.specs.Units.{outer_diameter}
 use Rattle.refusals.specs.Response.{complete}
@@ -18,7 +19,7 @@ use Rattle.requirement.specs.declared.EconomyTerms.{EconomyTerms}
 use Rattle.jacket.specs.Jacket.{jacketed}
 use Rattle.jacket.proofs.Cleared.{judged_cleared, meets_cleared, misses_cleared}
 use Rattle.answer.specs.Answer.{shape_code}
-use Rattle.sheet.specs.Sheet.{counts_jacket, decoded}
+use Rattle.sheet.specs.Sheet.{counts_jacket, decoded, decoded_as}
 use Rattle.sheet.specs.Fields.{first_fault}
 use Rattle.sheet.specs.Refusals.{field_cases, response_to}
 use Rattle.sheet.proofs.Criteria.{one_criterion}
@@ -58,14 +59,14 @@ module _ (l : Line) (Δ : ℕ) (e : EconomyTerms) (aim : ℕ) (k : Thickness) wh
 
 module _ (sheet bytes : List ℕ) (seven : get_or sheet 0 0 ≡ 7) (h : response_to sheet ≡ complete bytes) where
   cylinder : shape_of (decoded sheet).line ≡ Cylinder
-  unfolding decoded
-  cylinder = rw (le-leb (decoded sheet).line.diameter.0 10_000 ((answered sheet bytes h).0.admitted.cylinder (ap counts_jacket seven))) refl
+  unfolding decoded_as
+  cylinder = rw (le-leb (decoded sheet).line.diameter.0 10_000 ((answered Standard sheet bytes h).0.admitted.cylinder (ap counts_jacket seven))) refl
 
   cylinders : get_or bytes 1 0 ≡ 1
-  cylinders = ((sheet_demand_2 sheet).answered bytes h).shape ∙ ap shape_code cylinder
+  cylinders = ((sheet_demand_2 Standard sheet).answered bytes h).shape ∙ ap shape_code cylinder
 
 any_price : (front : List ℕ) → length front ≡ 21 → (a b a' b' : ℕ) → field_cases (7 ∷ front ++ (a ∷ b ∷ [])) ≡ field_cases (7 ∷ front ++ (a' ∷ b' ∷ []))
-unfolding big_endian decoded first_fault by_places
+unfolding big_endian decoded_as first_fault by_places
 any_price front len a b a' b' =
     subst (λ (front : List ℕ). field_cases (7 ∷ front ++ (a ∷ b ∷ [])) ≡ field_cases (7 ∷ front ++ (a' ∷ b' ∷ []))) (sym (one_by_one 21 front len)) refl
 

@@ -9,6 +9,7 @@ use native.Mathlib.Nat.{le_refl}
 use native.Mathlib.Omega.{arith}
 use lib.ListN.{length, get_or}
 use borrow.Author.Tests.{eqb-true, ne_eqb, not-false}
+use Rattle.kinds.specs.declared.Kind.TheVariants.{Standard}
 use Rattle.std.specs.Prelude.{Option, Some}
 use Rattle.fractions.specs.declared.Bounds.{Bounds}
 use Rattle.lengths.specs.Ladder.{thickness_at}
@@ -27,7 +28,7 @@ use Rattle.answer.specs.declared.Pass.TheVariants.{First, Second}
 use Rattle.answer.specs.Answer.{pass_code, loss_code}
 use Rattle.limits.specs.Limits.{loss_limit}
 use Rattle.sheet.specs.declared.fields.Sheet.{Sheet}
-use Rattle.sheet.specs.Sheet.{decoded, difference, goal_of}
+use Rattle.sheet.specs.Sheet.{decoded, decoded_as, difference, goal_of}
 use Rattle.sheet.specs.Search.{required_of}
 use Rattle.sheet.specs.Checks.{loss_check}
 use Rattle.sheet.specs.Passes.{second_aim, goal_in, pass_after, deciding_pass}
@@ -62,10 +63,10 @@ module _ (sheet bytes : List ℕ) (h : response_to sheet ≡ complete bytes) whe
   s = decoded sheet
 
   got : AnswerTo s bytes
-  got = (sheet_demand_2 sheet).answered bytes h
+  got = (sheet_demand_2 Standard sheet).answered bytes h
 
   only_6 : s.respects_limit ≡ true → get_or sheet 0 0 ≡ 6
-  unfolding decoded
+  unfolding decoded_as
   only_6 e = eqb-true _ _ e
 
   goal_6_only : (get_or bytes 0 0 ≡ 0) ⊎ ((get_or bytes 0 0 ≡ 1) × (get_or sheet 0 0 ≡ 6))

@@ -12,7 +12,7 @@ use Rattle.provision.specs.Provided.{insulation, film, insulation_bounds, film_b
 use Rattle.verdict.specs.Verdict.{first_not_insufficient}
 use Rattle.answer.specs.Answer.{encoded}
 use Rattle.limits.specs.Limits.{neighbours, loss_limit}
-use Rattle.sheet.specs.Sheet.{decoded}
+use Rattle.sheet.specs.Sheet.{decoded_as}
 use Rattle.sheet.specs.Fields.{first_fault}
 use Rattle.sheet.specs.Checks.{loss_check, surface_check}
 use Rattle.sheet.specs.Passes.{check_between}
@@ -22,7 +22,7 @@ use Rattle.book.specs.Refusals.{same_bytes}
 use Rattle.worked.specs.Book.{WorkedBook}
 
 pub worked_book : WorkedBook
-unfolding overlay lower_step upper_step least insulation film insulation_bounds film_bounds provided requirement enclosing first_not_insufficient big_endian bytes_of decoded neighbours loss_limit loss_check surface_check check_between surface_bound encoded answer_of first_fault respond new_book same_bytes
+unfolding overlay lower_step upper_step least insulation film insulation_bounds film_bounds provided requirement enclosing first_not_insufficient big_endian bytes_of decoded_as neighbours loss_limit loss_check surface_check check_between surface_bound encoded answer_of first_fault respond new_book same_bytes
 worked_book =
     record {
       size = λ c. omega arith;

@@ -23,7 +23,7 @@ use Rattle.verdict.specs.declared.Verdict.TheVariants.{Sufficient, Insufficient,
 use Rattle.jacket.specs.Jacket.{jacketed}
 use Rattle.answer.specs.Answer.{encoded}
 use Rattle.limits.specs.Limits.{neighbours, loss_limit}
-use Rattle.sheet.specs.Sheet.{decoded}
+use Rattle.sheet.specs.Sheet.{decoded, decoded_as}
 use Rattle.sheet.specs.Fields.{first_fault}
 use Rattle.sheet.specs.Checks.{loss_check, surface_check}
 use Rattle.sheet.specs.Passes.{check_between}
@@ -59,7 +59,7 @@ abbrev of_tube : Fraction
 of_tube = (14_402_025_000 * (240 * 438 * 2_300 * 376)) over (51_664 * 8_352)
 
 pub examples : Examples
-unfolding summed lower_step upper_step least insulation film insulation_bounds film_bounds provided requirement enclosing first_not_insufficient big_endian bytes_of decoded neighbours loss_limit loss_check surface_check check_between surface_bound encoded answer_of first_fault respond
+unfolding summed lower_step upper_step least insulation film insulation_bounds film_bounds provided requirement enclosing first_not_insufficient big_endian bytes_of decoded_as neighbours loss_limit loss_check surface_check check_between surface_bound encoded answer_of first_fault respond
 examples =
     record {
       economy_270 = (rw (low, high), rw (low, high));
@@ -76,7 +76,7 @@ examples =
     }
 
 pub cold_examples : ColdExamples
-unfolding summed lower_step upper_step least insulation film insulation_bounds film_bounds provided requirement enclosing first_not_insufficient big_endian bytes_of decoded neighbours loss_limit loss_check surface_check check_between surface_bound encoded answer_of first_fault respond
+unfolding summed lower_step upper_step least insulation film insulation_bounds film_bounds provided requirement enclosing first_not_insufficient big_endian bytes_of decoded_as neighbours loss_limit loss_check surface_check check_between surface_bound encoded answer_of first_fault respond
 cold_examples =
     record {
       economy_320 = rw (low, high);
@@ -107,31 +107,31 @@ wall_high : ceiling_root of_wall ≡ 135_443
 wall_high = root_high of_wall 135_442 (omega arith) (omega arith) (omega arith)
 
 walls_within : Check (bare_wall 1 1_500 340 100) (Some Sufficient) × Check (bare_wall 2 1_500 340 174) (Some Sufficient)
-unfolding summed lower_step upper_step least insulation film insulation_bounds film_bounds provided requirement enclosing first_not_insufficient big_endian bytes_of decoded neighbours loss_limit loss_check check_between
+unfolding summed lower_step upper_step least insulation film insulation_bounds film_bounds provided requirement enclosing first_not_insufficient big_endian bytes_of decoded_as neighbours loss_limit loss_check check_between
 walls_within = (rw (wall_low, wall_high), rw (wall_low, wall_high))
 
 wall_close : Check (bare_wall 2 1_500 340 175) (Some Undecided)
-unfolding summed lower_step upper_step least insulation film insulation_bounds film_bounds provided requirement enclosing first_not_insufficient big_endian bytes_of decoded neighbours loss_limit loss_check check_between
+unfolding summed lower_step upper_step least insulation film insulation_bounds film_bounds provided requirement enclosing first_not_insufficient big_endian bytes_of decoded_as neighbours loss_limit loss_check check_between
 wall_close = rw (wall_low, wall_high)
 
 walls_over : Check (bare_wall 1 1_500 340 899) (Some Insufficient) × Check (bare_wall 1 1_500 340 900) (Some Insufficient) × Check (bare_wall 1 1_500 340 901) (Some Insufficient) × Check (bare_wall 3 1_300 140 485) (Some Insufficient)
-unfolding summed lower_step upper_step least insulation film insulation_bounds film_bounds provided requirement enclosing first_not_insufficient big_endian bytes_of decoded neighbours loss_limit loss_check check_between
+unfolding summed lower_step upper_step least insulation film insulation_bounds film_bounds provided requirement enclosing first_not_insufficient big_endian bytes_of decoded_as neighbours loss_limit loss_check check_between
 walls_over = (rw (wall_low, wall_high), rw (wall_low, wall_high), rw (wall_low, wall_high), rw (wall_low, wall_high))
 
 hot_wall_over : Check hot_wall (Some Insufficient)
-unfolding summed lower_step upper_step least insulation film insulation_bounds film_bounds provided requirement enclosing first_not_insufficient big_endian bytes_of decoded neighbours loss_limit loss_check check_between
+unfolding summed lower_step upper_step least insulation film insulation_bounds film_bounds provided requirement enclosing first_not_insufficient big_endian bytes_of decoded_as neighbours loss_limit loss_check check_between
 hot_wall_over = rw (root_low of_hot_wall 229_895 (omega arith) (omega arith) (omega arith), root_high of_hot_wall 229_895 (omega arith) (omega arith) (omega arith))
 
 tube_over : Check tube (Some Insufficient)
-unfolding summed lower_step upper_step least insulation film insulation_bounds film_bounds provided requirement enclosing first_not_insufficient big_endian bytes_of decoded neighbours loss_limit loss_check check_between
+unfolding summed lower_step upper_step least insulation film insulation_bounds film_bounds provided requirement enclosing first_not_insufficient big_endian bytes_of decoded_as neighbours loss_limit loss_check check_between
 tube_over = rw (root_low of_tube 1_741_899 (omega arith) (omega arith) (omega arith), root_high of_tube 1_741_899 (omega arith) (omega arith) (omega arith))
 
 none_there : Check (economy_of 6 270 207 70 0) None
-unfolding summed lower_step upper_step least insulation film insulation_bounds film_bounds provided requirement enclosing first_not_insufficient big_endian bytes_of decoded neighbours loss_limit loss_check check_between
+unfolding summed lower_step upper_step least insulation film insulation_bounds film_bounds provided requirement enclosing first_not_insufficient big_endian bytes_of decoded_as neighbours loss_limit loss_check check_between
 none_there = rw (low, high)
 
 pub limited_examples : LimitedExamples
-unfolding summed lower_step upper_step least insulation film insulation_bounds film_bounds provided requirement enclosing first_not_insufficient big_endian bytes_of decoded neighbours loss_limit loss_check surface_check surface_bound encoded answer_of first_fault respond
+unfolding summed lower_step upper_step least insulation film insulation_bounds film_bounds provided requirement enclosing first_not_insufficient big_endian bytes_of decoded_as neighbours loss_limit loss_check surface_check surface_bound encoded answer_of first_fault respond
 limited_examples =
     record {
       within = (rw (walls_within.0, wall_low, wall_high), rw (walls_within.1, wall_low, wall_high));
@@ -147,7 +147,7 @@ limited_examples =
     }
 
 pub jacket_examples : JacketExamples
-unfolding summed lower_step upper_step least insulation film insulation_bounds film_bounds provided requirement enclosing jacketed first_not_insufficient big_endian bytes_of decoded neighbours loss_limit loss_check surface_check check_between surface_bound encoded answer_of first_fault respond
+unfolding summed lower_step upper_step least insulation film insulation_bounds film_bounds provided requirement enclosing jacketed first_not_insufficient big_endian bytes_of decoded_as neighbours loss_limit loss_check surface_check check_between surface_bound encoded answer_of first_fault respond
 jacket_examples =
     record {
       priced = refl;

@@ -20,7 +20,7 @@ use Rattle.provision.specs.Provided.{insulation, film, insulation_bounds, film_b
 use Rattle.verdict.specs.Verdict.{first_not_insufficient}
 use Rattle.answer.specs.Answer.{encoded}
 use Rattle.limits.specs.Limits.{neighbours, loss_limit}
-use Rattle.sheet.specs.Sheet.{decoded, surface_aim}
+use Rattle.sheet.specs.Sheet.{decoded, decoded_as, surface_aim}
 use Rattle.sheet.specs.Fields.{first_fault}
 use Rattle.sheet.specs.Checks.{loss_check, surface_check}
 use Rattle.sheet.specs.Passes.{check_between}
@@ -30,7 +30,7 @@ use Rattle.worked.specs.Sheets.{Worked}
 
 -- goal 3 with the aim at t
 aim_refused_lem : (sheet : List ℕ) → let s = decoded sheet in s.code ≡ 3 → surface_aim s ≡ s.temperature → aim_refused s s.goal ≡ true
-unfolding decoded
+unfolding decoded_as
 aim_refused_lem sheet goal aim =
     let s = decoded sheet in
     let same : (surface_aim s).0 ≡ s.temperature.0 = λ j. (aim j).0 in
@@ -41,7 +41,7 @@ aim_at_t : (sheet : List ℕ) → let s = decoded sheet in s.code ≡ 3 → surf
 aim_at_t sheet goal aim earlier = first_at 5 (cases sheet) (answer sheet) earlier (aim_refused_lem sheet goal aim)
 
 pub worked : Worked
-unfolding lower_step upper_step least insulation film insulation_bounds film_bounds provided requirement enclosing first_not_insufficient big_endian bytes_of decoded neighbours loss_limit loss_check surface_check check_between surface_bound encoded answer_of first_fault respond
+unfolding lower_step upper_step least insulation film insulation_bounds film_bounds provided requirement enclosing first_not_insufficient big_endian bytes_of decoded_as neighbours loss_limit loss_check surface_check check_between surface_bound encoded answer_of first_fault respond
 worked =
     record {
       p1 = refl;
