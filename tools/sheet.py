@@ -6,6 +6,8 @@
 prints the eight bytes of the answer, or the word refused and the refusal's number. The goals are 1 economy, 2 loss, 3 surface,
 4 cold surface, 5 cold economy, 6 economy that respects the loss limit and 7 economy with the price of the jacket, which is its aim,
 in yuan/m². t, ta and a surface aim may be negative. A number that its field cannot hold stops the script.
+
+The functions take larger sheets too where they are given their size, 26 bytes.
 """
 import sys
 from fractions import Fraction
@@ -15,6 +17,7 @@ YEAR_ROUND = [58, 93, 116, 140, 163, 186, 209, 227, 244, 262, 279, 296, 314]
 SEASONAL = [116, 163, 203, 244, 273, 296, 308, 314]
 MEETS, MISSES, OPEN = 0, 1, 2
 NAMES = "goal service line D t ta L alpha f tau P S aim".split()
+STANDARD_SHEET, LARGER_SHEET = 24, 26  # bytes
 GOALS, HOT_GOALS, COLD_GOALS = (1, 2, 3, 4, 5, 6, 7), (1, 2, 3, 6, 7), (4, 5)
 ECONOMY_GOALS, SURFACE_GOALS = (1, 5, 6, 7), (3, 4)
 LIMITED = 6  # economy that respects the loss limit
@@ -108,15 +111,23 @@ def encoded(name, value, size=2, negative=False):
     return value.to_bytes(size, "big", signed=negative)
 
 
+def places(size):
+    """Where each field of a sheet of that size begins and ends, in the order of their names. Document 01 has the table for 24 bytes: what
+    a sheet has beyond them goes to the line number, and every later field stands as much further on."""
+    shift = size - STANDARD_SHEET
+    begins = [0, 1, 2, *range(4 + shift, 25 + shift, 2)]
+    return list(zip(begins, begins[1:]))
+
+
 def unpacked(sheet):
-    """The fields of the 24 bytes, in the order of their names."""
-    values = [sheet[0], sheet[1], *(256 * sheet[i] + sheet[i + 1] for i in range(2, 24, 2))]
+    """The fields of a sheet's bytes, in the order of their names."""
+    values = [int.from_bytes(sheet[begin:end], "big") for begin, end in places(len(sheet))]
     return [signed(value) if is_signed(name, sheet[0]) else value for name, value in zip(NAMES, values)]
 
 
-def fault(sheet):
-    """The first of the refusals 11 to 16 and 43 that holds, or None."""
-    if len(sheet) != 24:
+def fault(sheet, size):
+    """The first of the refusals 11 to 16 and 43 that holds, or None; a sheet is to have that size."""
+    if len(sheet) != size:
         return 11
     goal, service, _, D, t, ta, L, alpha, f, tau, P, S, aim = unpacked(sheet)
     if goal not in GOALS or service not in (1, 2, 3, 4):
@@ -170,9 +181,9 @@ def first_pass(sheet):
     return against(loss_need(heat, aim) if goal == 2 else surface_need(heat, alpha, s))
 
 
-def answer(sheet):
-    """The refusal's number, or the eight bytes."""
-    refused = fault(sheet)
+def answer(sheet, size=STANDARD_SHEET):
+    """The refusal's number, or the eight bytes; a sheet is to have that size."""
+    refused = fault(sheet, size)
     if refused:
         return refused
     goal, service, _, D, t, ta, L, alpha, *_ = unpacked(sheet)
@@ -201,13 +212,18 @@ def answer(sheet):
     return [second, 3 - n, *encoded("thickness", k), loss, surface, *encoded("surface bound", bound, negative=True)]
 
 
-def sheet_of(line=0, **fields):
-    """The bytes of a sheet, from its fields by their names."""
+def sheet_of(line=0, size=STANDARD_SHEET, **fields):
+    """The bytes of a sheet of that size, from its fields by their names."""
     x = {"line": line, **fields}
     wrong = sorted(x.keys() ^ set(NAMES))
     if wrong:
         sys.exit(f"{wrong[0]} is {'not given' if wrong[0] in NAMES else 'no field of a sheet'}")
-    return b"".join(encoded(name, x[name], 1 if name in ("goal", "service") else 2, is_signed(name, x["goal"])) for name in NAMES)
+    return b"".join(encoded(name, x[name], end - begin, is_signed(name, x["goal"])) for name, (begin, end) in zip(NAMES, places(size)))
+
+
+def said(result):
+    """A line for the number of a refusal, or for bytes."""
+    return f"refused {result}" if isinstance(result, int) else " ".join(map(str, result))
 
 
 def whole(name, text):
@@ -222,5 +238,4 @@ if __name__ == "__main__":
     if len(sys.argv) != 13:
         sys.exit(__doc__.strip())
     given = zip((name for name in NAMES if name != "line"), sys.argv[1:])
-    result = answer(sheet_of(**{name: whole(name, text) for name, text in given}))
-    print(f"refused {result}" if isinstance(result, int) else " ".join(map(str, result)))
+    print(said(answer(sheet_of(**{name: whole(name, text) for name, text in given}))))
