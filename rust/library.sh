@@ -1,5 +1,5 @@
 #!/bin/sh
-# Proves and builds the static library of the five calls, target/staticlib/libkennelday.a.
+# Proves and builds the static library of the eight calls, target/staticlib/libkennelday.a.
 set -eu
 cd "$(dirname "$0")/.." || exit 1
 (cd crates/kennelday_c && rt lib)

@@ -6,10 +6,66 @@ use std::ops::{Range, RangeInclusive};
 /// The number of a refusal.
 pub type Refusal = u8;
 
-// The sheet: 24 bytes.
+// The sheet: 24 bytes, a larger one 26.
 
 pub const SHEET_LENGTH: usize = 24;
 pub const ANSWER_LENGTH: usize = 8;
+
+/// The widths in which the two kinds of sheets and of books differ.
+#[derive(Clone, Copy, Debug, PartialEq, Eq)]
+pub struct Layout {
+    pub name: &'static str,
+    /// Bytes of a sheet's line number.
+    pub line_width: usize,
+    /// Zero bytes at the start of a book.
+    pub lead: usize,
+    /// Bytes of a book's capacity, and of its count.
+    pub size_width: usize,
+    pub largest_capacity: u64,
+}
+
+/// "Sizes first": "capacity c (2 bytes, 1 to 1,000), count n (2 bytes)".
+pub const STANDARD: Layout = Layout {
+    name: "standard",
+    line_width: 2,
+    lead: 0,
+    size_width: 2,
+    largest_capacity: 1_000,
+};
+
+/// "The sheet's line number grows to four bytes and the sheet to 26. The larger
+/// book starts with two zero bytes, then capacity and count in four bytes each,
+/// then the two arrays. Its capacity runs to 100,000."
+pub const LARGER: Layout = Layout {
+    name: "larger",
+    line_width: 4,
+    lead: 2,
+    size_width: 4,
+    largest_capacity: 100_000,
+};
+
+/// 26.
+pub const LARGER_SHEET_LENGTH: usize = LARGER.sheet_length();
+
+impl Layout {
+    /// By how many bytes the line number is longer than that of a standard sheet.
+    pub const fn further(self) -> usize {
+        self.line_width - STANDARD.line_width
+    }
+
+    pub const fn sheet_length(self) -> usize {
+        SHEET_LENGTH + self.further()
+    }
+
+    /// Where a field is that a standard sheet has at this offset.
+    pub const fn place(self, offset: usize) -> usize {
+        if offset <= LINE_OFFSET {
+            offset
+        } else {
+            offset + self.further()
+        }
+    }
+}
 
 pub const GOAL_OFFSET: usize = 0;
 pub const SERVICE_OFFSET: usize = 1;
@@ -19,6 +75,7 @@ pub const AIM_OFFSET: usize = 22;
 /// A two-byte field and the range to which test 13 holds it.
 #[derive(Clone, Copy, Debug)]
 pub struct Field {
+    /// On a standard sheet.
     pub offset: usize,
     pub signed: bool,
     pub least: i32,
@@ -230,18 +287,28 @@ pub struct Sheet {
     aim: [u8; 2],
 }
 
-/// "All files are big-endian."
-fn bytes_at(sheet: &[u8], offset: usize) -> [u8; 2] {
-    [sheet[offset], sheet[offset + 1]]
+/// The bytes of a sheet. Each field is found by its offset on a standard sheet.
+#[derive(Clone, Copy)]
+struct SheetBytes<'a> {
+    layout: Layout,
+    bytes: &'a [u8],
 }
 
-fn unsigned_at(sheet: &[u8], offset: usize) -> u16 {
-    u16::from_be_bytes(bytes_at(sheet, offset))
-}
+impl SheetBytes<'_> {
+    /// "All files are big-endian."
+    fn bytes_at(self, offset: usize) -> [u8; 2] {
+        let place = self.layout.place(offset);
+        [self.bytes[place], self.bytes[place + 1]]
+    }
 
-/// "t, ta and a surface aim are signed 16-bit two's complement."
-fn signed_at(sheet: &[u8], offset: usize) -> i16 {
-    i16::from_be_bytes(bytes_at(sheet, offset))
+    fn unsigned_at(self, offset: usize) -> u16 {
+        u16::from_be_bytes(self.bytes_at(offset))
+    }
+
+    /// "t, ta and a surface aim are signed 16-bit two's complement."
+    fn signed_at(self, offset: usize) -> i16 {
+        i16::from_be_bytes(self.bytes_at(offset))
+    }
 }
 
 fn goal_of(code: u8) -> Option<Goal> {
@@ -253,20 +320,20 @@ fn service_of(code: u8) -> Option<Service> {
 }
 
 impl Sheet {
-    fn from_bytes(sheet: &[u8], goal: Goal, service: Service) -> Sheet {
+    fn from_bytes(sheet: SheetBytes, goal: Goal, service: Service) -> Sheet {
         Sheet {
             goal,
             service,
-            diameter: unsigned_at(sheet, DIAMETER.offset),
-            pipe_temperature: signed_at(sheet, PIPE_TEMPERATURE.offset),
-            air_temperature: signed_at(sheet, AIR_TEMPERATURE.offset),
-            conductivity: unsigned_at(sheet, CONDUCTIVITY.offset),
-            coefficient: unsigned_at(sheet, COEFFICIENT.offset),
-            heat_price: unsigned_at(sheet, HEAT_PRICE.offset),
-            hours: unsigned_at(sheet, HOURS.offset),
-            insulation_price: unsigned_at(sheet, INSULATION_PRICE.offset),
-            yearly_share: unsigned_at(sheet, YEARLY_SHARE.offset),
-            aim: bytes_at(sheet, AIM_OFFSET),
+            diameter: sheet.unsigned_at(DIAMETER.offset),
+            pipe_temperature: sheet.signed_at(PIPE_TEMPERATURE.offset),
+            air_temperature: sheet.signed_at(AIR_TEMPERATURE.offset),
+            conductivity: sheet.unsigned_at(CONDUCTIVITY.offset),
+            coefficient: sheet.unsigned_at(COEFFICIENT.offset),
+            heat_price: sheet.unsigned_at(HEAT_PRICE.offset),
+            hours: sheet.unsigned_at(HOURS.offset),
+            insulation_price: sheet.unsigned_at(INSULATION_PRICE.offset),
+            yearly_share: sheet.unsigned_at(YEARLY_SHARE.offset),
+            aim: sheet.bytes_at(AIM_OFFSET),
         }
     }
 
@@ -318,15 +385,24 @@ impl Sheet {
 
 // Sent back because of the sheet: tests 11 to 16 and 43.
 
-/// "Tests run in this order."
+/// A standard sheet.
 pub fn examine(sheet: &[u8]) -> Result<Sheet, Refusal> {
-    // 11: length is not 24.
-    if sheet.len() != SHEET_LENGTH {
+    examine_in(STANDARD, sheet)
+}
+
+/// "Tests run in this order." The line number is not looked at.
+pub fn examine_in(layout: Layout, sheet: &[u8]) -> Result<Sheet, Refusal> {
+    // 11: length is not 24, and "11 for 26 bytes in the larger book".
+    if sheet.len() != layout.sheet_length() {
         return Err(11);
     }
     // 12: goal or service code unknown.
     let goal = goal_of(sheet[GOAL_OFFSET]).ok_or(12)?;
     let service = service_of(sheet[SERVICE_OFFSET]).ok_or(12)?;
+    let sheet = SheetBytes {
+        layout,
+        bytes: sheet,
+    };
     // 13: a field outside its range.
     if FIELDS.iter().any(|field| outside(field, goal, sheet)) {
         return Err(13);
@@ -334,7 +410,7 @@ pub fn examine(sheet: &[u8]) -> Result<Sheet, Refusal> {
     // 14: an unused field not zero, or goal 1 with an aim not zero. Of goals 5
     // and 6 too the "aim is zero".
     let unused = FIELDS.iter().any(|field| stray(field, goal, sheet));
-    if unused || (goal.method() == Method::Economy && unsigned_at(sheet, AIM_OFFSET) != 0) {
+    if unused || (goal.method() == Method::Economy && sheet.unsigned_at(AIM_OFFSET) != 0) {
         return Err(14);
     }
     let sheet = Sheet::from_bytes(sheet, goal, service);
@@ -375,18 +451,18 @@ pub fn used(field: &Field, goal: Goal) -> bool {
 }
 
 /// Test 13: the range of an unused field does not apply.
-fn outside(field: &Field, goal: Goal, sheet: &[u8]) -> bool {
+fn outside(field: &Field, goal: Goal, sheet: SheetBytes) -> bool {
     let value = if field.signed {
-        i32::from(signed_at(sheet, field.offset))
+        i32::from(sheet.signed_at(field.offset))
     } else {
-        i32::from(unsigned_at(sheet, field.offset))
+        i32::from(sheet.unsigned_at(field.offset))
     };
     used(field, goal) && !field.range(goal).contains(&value)
 }
 
 /// Test 14: "and are zero otherwise".
-fn stray(field: &Field, goal: Goal, sheet: &[u8]) -> bool {
-    !used(field, goal) && unsigned_at(sheet, field.offset) != 0
+fn stray(field: &Field, goal: Goal, sheet: SheetBytes) -> bool {
+    !used(field, goal) && sheet.unsigned_at(field.offset) != 0
 }
 
 // Ladder and figures.
@@ -870,12 +946,17 @@ fn choose_again(sheet: &Sheet, provided: Bracket) -> Result<Option<(u16, Bracket
     }
 }
 
+/// The answer to a standard sheet.
+pub fn answer(sheet: &[u8]) -> Result<[u8; ANSWER_LENGTH], Refusal> {
+    answer_in(STANDARD, sheet)
+}
+
 /// The answer to a sheet: "Byte 0 is 0", but of a second pass "1 in place of
 /// 0". "Byte 1: 1 cylinder, 2 flat. Bytes 2–3: thickness in mm. Byte 4, loss
 /// check. Byte 5, surface check. Bytes 6–7: surface bound in 0.1 °C, signed."
 /// After a second pass "checks and bound are then those of the second rung".
-pub fn answer(sheet: &[u8]) -> Result<[u8; ANSWER_LENGTH], Refusal> {
-    let sheet = examine(sheet)?;
+pub fn answer_in(layout: Layout, sheet: &[u8]) -> Result<[u8; ANSWER_LENGTH], Refusal> {
+    let sheet = examine_in(layout, sheet)?;
     let first = match required(&sheet) {
         Some(required) => choose_for(&sheet, required),
         None => choose(jacketed(&sheet)),
@@ -893,12 +974,59 @@ pub fn answer(sheet: &[u8]) -> Result<[u8; ANSWER_LENGTH], Refusal> {
 
 // The book.
 
-pub const HEADER_LENGTH: usize = 4;
-pub const LARGEST_CAPACITY: u64 = 1_000;
+impl Layout {
+    pub const fn header_length(self) -> usize {
+        self.lead + 2 * self.size_width
+    }
 
-/// "Length 4 + 32c."
-pub fn book_length(capacity: usize) -> usize {
-    HEADER_LENGTH + (SHEET_LENGTH + ANSWER_LENGTH) * capacity
+    /// "Length 4 + 32c", of the larger book "10 + 34c".
+    pub const fn book_length(self, capacity: usize) -> usize {
+        self.header_length() + (self.sheet_length() + ANSWER_LENGTH) * capacity
+    }
+
+    /// "c sheet slots".
+    pub fn sheet_slot(self, entry: usize) -> Range<usize> {
+        let start = self.header_length() + self.sheet_length() * entry;
+        start..start + self.sheet_length()
+    }
+
+    /// "c answer slots", after the sheet slots.
+    pub fn answer_slot(self, capacity: usize, entry: usize) -> Range<usize> {
+        let start = self.sheet_slot(capacity).start + ANSWER_LENGTH * entry;
+        start..start + ANSWER_LENGTH
+    }
+
+    /// Where a book has its capacity.
+    pub fn capacity_slot(self) -> Range<usize> {
+        self.lead..self.lead + self.size_width
+    }
+
+    /// Where a book has its count.
+    pub fn count_slot(self) -> Range<usize> {
+        self.capacity_slot().end..self.header_length()
+    }
+}
+
+/// "The new reader takes both kinds by their first two bytes."
+pub fn layout_of(book: &[u8]) -> Layout {
+    match book {
+        [0, 0, ..] => LARGER,
+        _ => STANDARD,
+    }
+}
+
+/// A size in its two or four bytes.
+fn size_at(book: &[u8], slot: Range<usize>) -> u64 {
+    let bytes = book[slot].iter();
+    bytes.fold(0, |size, &byte| 256 * size + u64::from(byte))
+}
+
+/// Puts a size into its two or four bytes.
+pub fn put_size(book: &mut [u8], slot: Range<usize>, size: usize) {
+    let bytes = (size as u64).to_be_bytes();
+    let (high, low) = bytes.split_at(bytes.len() - slot.len());
+    assert!(high.iter().all(|&byte| byte == 0), "size {size}");
+    book[slot].copy_from_slice(low);
 }
 
 /// A book's capacity c and count n.
@@ -907,94 +1035,86 @@ struct Header {
     count: usize,
 }
 
-impl Header {
-    /// "c sheet slots".
-    fn sheet_slot(&self, entry: usize) -> Range<usize> {
-        let start = HEADER_LENGTH + SHEET_LENGTH * entry;
-        start..start + SHEET_LENGTH
-    }
-
-    /// "c answer slots", after the sheet slots.
-    fn answer_slot(&self, entry: usize) -> Range<usize> {
-        let start = HEADER_LENGTH + SHEET_LENGTH * self.capacity + ANSWER_LENGTH * entry;
-        start..start + ANSWER_LENGTH
-    }
-}
-
-/// "31: under 4 bytes, c outside 1 to 1,000, or length not 4 + 32c."
-fn sound_capacity(length: usize, capacity: u64) -> Result<usize, Refusal> {
-    if !(1..=LARGEST_CAPACITY).contains(&capacity) {
+/// "31: under 4 bytes, c outside 1 to 1,000, or length not 4 + 32c", "with 31
+/// and 32 restated for the larger sizes".
+fn sound_capacity(layout: Layout, length: usize, capacity: u64) -> Result<usize, Refusal> {
+    if !(1..=layout.largest_capacity).contains(&capacity) {
         return Err(31);
     }
     let capacity = usize::try_from(capacity).map_err(|_| 31)?;
-    if length == book_length(capacity) {
+    if length == layout.book_length(capacity) {
         Ok(capacity)
     } else {
         Err(31)
     }
 }
 
-/// "Capacity c (2 bytes, 1 to 1,000), count n (2 bytes)."
-fn header(book: &[u8]) -> Result<Header, Refusal> {
+fn header(layout: Layout, book: &[u8]) -> Result<Header, Refusal> {
     // 31, of a book that is there already.
-    if book.len() < HEADER_LENGTH {
+    if book.len() < layout.header_length() {
         return Err(31);
     }
-    let capacity = sound_capacity(book.len(), unsigned_at(book, 0).into())?;
+    let capacity = size_at(book, layout.capacity_slot());
+    let capacity = sound_capacity(layout, book.len(), capacity)?;
     // 32: n above c.
-    let count = usize::from(unsigned_at(book, 2));
-    if count > capacity {
-        return Err(32);
+    match usize::try_from(size_at(book, layout.count_slot())) {
+        Ok(count) if count <= capacity => Ok(Header { capacity, count }),
+        _ => Err(32),
     }
-    Ok(Header { capacity, count })
 }
 
 /// "A new book is all zero but for c." "Making a new book has this refusal
 /// (31) only; c is then the capacity wanted."
-pub fn new_book(book: &mut [u8], capacity: u64) -> Result<(), Refusal> {
-    let capacity = sound_capacity(book.len(), capacity)?;
-    let capacity = u16::try_from(capacity).expect("at most 1,000");
+pub fn new_book(layout: Layout, book: &mut [u8], capacity: u64) -> Result<(), Refusal> {
+    let capacity = sound_capacity(layout, book.len(), capacity)?;
     book.fill(0);
-    book[0..2].copy_from_slice(&capacity.to_be_bytes());
+    put_size(book, layout.capacity_slot(), capacity);
     Ok(())
 }
 
 /// "Filing writes slot n in both arrays, raises n by one, returns the answer
-/// and changes nothing else."
+/// and changes nothing else." The sheet is one of the book's kind.
 pub fn file(book: &mut [u8], sheet: &[u8]) -> Result<[u8; ANSWER_LENGTH], Refusal> {
-    let header = header(book)?;
+    let layout = layout_of(book);
+    let Header { capacity, count } = header(layout, book)?;
     // 34: filing, n = c.
-    if header.count == header.capacity {
+    if count == capacity {
         return Err(34);
     }
-    let answer = answer(sheet)?;
-    book[header.sheet_slot(header.count)].copy_from_slice(sheet);
-    book[header.answer_slot(header.count)].copy_from_slice(&answer);
-    let count = u16::try_from(header.count + 1).expect("at most 1,000");
-    book[2..4].copy_from_slice(&count.to_be_bytes());
+    let answer = answer_in(layout, sheet)?;
+    book[layout.sheet_slot(count)].copy_from_slice(sheet);
+    book[layout.answer_slot(capacity, count)].copy_from_slice(&answer);
+    put_size(book, layout.count_slot(), count + 1);
     Ok(answer)
 }
 
-/// What a reading returns.
-pub type Entry = ([u8; SHEET_LENGTH], [u8; ANSWER_LENGTH]);
+/// What a reading returns: a sheet of 24 bytes or 26 and its answer.
+pub type Entry = (Vec<u8>, [u8; ANSWER_LENGTH]);
+
+/// "An old reader sees capacity zero and gives 31": it takes every book for a
+/// standard one.
+pub fn read(book: &[u8], entry: u64) -> Result<Entry, Refusal> {
+    read_in(STANDARD, book, entry)
+}
+
+pub fn read_either(book: &[u8], entry: u64) -> Result<Entry, Refusal> {
+    read_in(layout_of(book), book, entry)
+}
 
 /// "Reading entry e (0 to n − 1) works the sheet out again and returns the
 /// stored sheet with the stored answer."
-pub fn read(book: &[u8], entry: u64) -> Result<Entry, Refusal> {
-    let header = header(book)?;
+fn read_in(layout: Layout, book: &[u8], entry: u64) -> Result<Entry, Refusal> {
+    let Header { capacity, count } = header(layout, book)?;
     // 33: reading, e not below n.
     let entry = usize::try_from(entry).map_err(|_| 33)?;
-    if entry >= header.count {
+    if entry >= count {
         return Err(33);
     }
-    let stored_sheet = &book[header.sheet_slot(entry)];
-    let stored_answer = &book[header.answer_slot(entry)];
+    let sheet = &book[layout.sheet_slot(entry)];
+    let stored_answer = &book[layout.answer_slot(capacity, entry)];
     // 35: the stored sheet is refused or its answer differs.
-    match answer(stored_sheet) {
-        Ok(answer) if answer == stored_answer => {
-            let sheet = stored_sheet.try_into().expect("a whole slot");
-            Ok((sheet, answer))
-        }
+    match answer_in(layout, sheet) {
+        Ok(answer) if answer == stored_answer => Ok((sheet.to_vec(), answer)),
         _ => Err(35),
     }
 }

@@ -9,7 +9,7 @@ mod ordinary;
 mod random;
 mod refused;
 
-pub use draft::{put, put_field, shapes, Draft};
+pub use draft::{in_layout, put, put_field, shapes, Draft};
 pub use random::Random;
 
 use std::collections::VecDeque;

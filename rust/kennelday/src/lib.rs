@@ -38,12 +38,39 @@
 //! let mut share = 0;
 //! kennelday::share(1_000, 6, &mut share)?;
 //! assert_eq!(share, 2_296);
+//!
+//! // The same wall as line 100,007: a larger sheet, and a larger book for it.
+//! let [goal, service, _, _, fields @ ..] = sheet;
+//! let mut larger_sheet = [0; 26];
+//! larger_sheet[..2].copy_from_slice(&[goal, service]);
+//! larger_sheet[2..6].copy_from_slice(&100_007_u32.to_be_bytes());
+//! larger_sheet[6..].copy_from_slice(&fields);
+//!
+//! let mut larger_book = [0; 10 + 34 * 2];
+//! kennelday::new_larger_book(&mut larger_book, 2)?;
+//!
+//! let mut larger_answer = [0; 8];
+//! kennelday::answer_larger(&larger_sheet, &mut larger_answer)?;
+//! assert_eq!(larger_answer, answer);
+//! kennelday::file(&mut larger_book, &larger_sheet, &mut larger_answer)?;
+//! assert_eq!(larger_answer, answer);
+//!
+//! let (mut stored_sheet, mut stored_answer) = ([0; 26], [0; 8]);
+//! kennelday::read_either(&larger_book, 0, &mut stored_sheet, &mut stored_answer)?;
+//! assert_eq!((stored_sheet, stored_answer), (larger_sheet, answer));
+//!
+//! // From a standard book it reads a standard sheet, into the first 24 bytes.
+//! kennelday::read_either(&book, 0, &mut stored_sheet, &mut stored_answer)?;
+//! assert_eq!(stored_sheet[..24], sheet);
+//! assert_eq!(stored_sheet[24..], larger_sheet[24..]);
 //! # Ok::<(), kennelday::Refusal>(())
 //! ```
 
 extern "C" {
     fn kd_answer(sheet: *const u8, sheet_len: usize, answer: *mut u8) -> u8;
+    fn kd_answer_larger(sheet: *const u8, sheet_len: usize, answer: *mut u8) -> u8;
     fn kd_new_book(book: *mut u8, book_len: usize, capacity: u64) -> u8;
+    fn kd_new_larger_book(book: *mut u8, book_len: usize, capacity: u64) -> u8;
     fn kd_file(
         book: *mut u8,
         book_len: usize,
@@ -53,6 +80,13 @@ extern "C" {
     ) -> u8;
     fn kd_read(book: *const u8, book_len: usize, entry: u64, sheet: *mut u8, answer: *mut u8)
         -> u8;
+    fn kd_read_either(
+        book: *const u8,
+        book_len: usize,
+        entry: u64,
+        sheet: *mut u8,
+        answer: *mut u8,
+    ) -> u8;
     fn kd_share(rate: u64, years: u64, share: *mut u16) -> u8;
 }
 
@@ -75,12 +109,22 @@ fn outcome(number: u8) -> Result<(), Refusal> {
     }
 }
 
-/// Works out a sheet and writes its answer.
+/// Works out a sheet of 24 bytes and writes its answer.
 ///
 /// A refused sheet leaves `answer` as it was.
 pub fn answer(sheet: &[u8], answer: &mut [u8; 8]) -> Result<(), Refusal> {
     // SAFETY: both pointers come from live, separate borrows of the stated lengths.
     outcome(unsafe { kd_answer(sheet.as_ptr(), sheet.len(), answer.as_mut_ptr()) })
+}
+
+/// Works out a larger sheet, one of 26 bytes with its line number in four of
+/// them, and writes its answer: that of the sheet of 24 bytes with the same
+/// other fields.
+///
+/// A refused sheet, also one of another length, leaves `answer` as it was.
+pub fn answer_larger(sheet: &[u8], answer: &mut [u8; 8]) -> Result<(), Refusal> {
+    // SAFETY: both pointers come from live, separate borrows of the stated lengths.
+    outcome(unsafe { kd_answer_larger(sheet.as_ptr(), sheet.len(), answer.as_mut_ptr()) })
 }
 
 /// Makes an empty book of 4 + 32 × `capacity` bytes, capacity 1 to 1,000.
@@ -91,7 +135,19 @@ pub fn new_book(book: &mut [u8], capacity: u64) -> Result<(), Refusal> {
     outcome(unsafe { kd_new_book(book.as_mut_ptr(), book.len(), capacity) })
 }
 
-/// Works out a sheet, files it with its answer and writes the answer.
+/// Makes an empty larger book, one for larger sheets, of 10 + 34 × `capacity`
+/// bytes, capacity 1 to 100,000. Its first two bytes are zero, which tells it
+/// from other books.
+///
+/// A refused call, 31 for another capacity or length, leaves `book` as it was.
+pub fn new_larger_book(book: &mut [u8], capacity: u64) -> Result<(), Refusal> {
+    // SAFETY: the pointer comes from a live borrow of the stated length.
+    outcome(unsafe { kd_new_larger_book(book.as_mut_ptr(), book.len(), capacity) })
+}
+
+/// Works out a sheet, files it with its answer and writes the answer. A larger
+/// book takes larger sheets, any other book sheets of 24 bytes; a sheet of the
+/// other kind is refused with 11.
 ///
 /// A refused filing leaves `book` and `answer` as they were.
 pub fn file(book: &mut [u8], sheet: &[u8], answer: &mut [u8; 8]) -> Result<(), Refusal> {
@@ -107,7 +163,8 @@ pub fn file(book: &mut [u8], sheet: &[u8], answer: &mut [u8; 8]) -> Result<(), R
     })
 }
 
-/// Reads an entry, counted from 0, and works its sheet out again.
+/// Reads an entry, counted from 0, and works its sheet out again. A larger book
+/// is refused with 31, whatever it holds: `read_either` reads both kinds.
 ///
 /// A refused reading leaves `sheet` and `answer` as they were.
 pub fn read(
@@ -119,6 +176,30 @@ pub fn read(
     // SAFETY: the pointers come from live, separate borrows of the stated lengths.
     outcome(unsafe {
         kd_read(
+            book.as_ptr(),
+            book.len(),
+            entry,
+            sheet.as_mut_ptr(),
+            answer.as_mut_ptr(),
+        )
+    })
+}
+
+/// Reads an entry of a book of either kind, counted from 0, and works its sheet
+/// out again. The book's first two bytes say which kind it is: where both are
+/// zero, a larger one. A larger sheet fills `sheet`; one of 24 bytes is written
+/// at its start, and the last two bytes stay as they were.
+///
+/// A refused reading leaves `sheet` and `answer` as they were.
+pub fn read_either(
+    book: &[u8],
+    entry: u64,
+    sheet: &mut [u8; 26],
+    answer: &mut [u8; 8],
+) -> Result<(), Refusal> {
+    // SAFETY: the pointers come from live, separate borrows of the stated lengths.
+    outcome(unsafe {
+        kd_read_either(
             book.as_ptr(),
             book.len(),
             entry,

@@ -1,7 +1,7 @@
 //! Sheets under construction.
 
 use super::{Batch, Random};
-use crate::plain::{self, Field, Flow, Goal, Method, Service, Shape, Sheet};
+use crate::plain::{self, Field, Flow, Goal, Layout, Method, Service, Shape, Sheet};
 
 pub type Draft = [u8; plain::SHEET_LENGTH];
 
@@ -205,6 +205,16 @@ pub fn any_draft(random: &mut Random, (goal, service, shape): (Goal, Service, Sh
     put_temperatures(&mut draft, any_temperatures(random, goal.flow()));
     put_any_aim(random, &mut draft);
     draft
+}
+
+/// A standard sheet, of any length, as one of a layout. The further bytes of its
+/// line number are put before the two that it has, and are zero one time in four.
+pub fn in_layout(random: &mut Random, layout: Layout, mut sheet: Vec<u8>) -> Vec<u8> {
+    let place = sheet.len().min(plain::LINE_OFFSET);
+    let low = random.once_in(4);
+    let further = (0..layout.further()).map(|_| if low { 0 } else { random.byte() });
+    sheet.splice(place..place, further);
+    sheet
 }
 
 /// A rung of the ladder, or the one that would come next above the top.

@@ -1,7 +1,7 @@
 //! Prints how fast the proved call, the plain one and the floating-point one
-//! are, where the floating-point one differs, what a book call and a yearly
-//! share cost, how much stack the calls need, and how long the listing
-//! programs take.
+//! are, where the floating-point one differs, what a book call, a larger sheet
+//! and a yearly share cost, how much stack the calls need, and how long the
+//! listing programs take.
 
 mod books;
 mod differences;
@@ -38,6 +38,8 @@ fn main() -> ExitCode {
     differences::print(Family::Near, 100_000);
     heading("Books, answered cylinders filed as the last entry");
     books::print(&cylinders[..1_000].to_vec());
+    heading("Larger sheets and larger books, the same sheets");
+    books::print_larger(&cylinders[..1_000].to_vec());
     heading("Yearly shares, every rate and term");
     shares::print();
     heading("Stack, wrapper included");
