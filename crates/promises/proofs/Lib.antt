@@ -6,5 +6,6 @@ pub mod AsGoal1
 pub mod AsGoal2
 pub mod WithinLimit
 pub mod JacketPrice
+pub mod BothKinds
 pub mod Promises
 pub mod Worked
