@@ -22,9 +22,10 @@ use Rattle.sheet.specs.Fields.{first_fault}
 use Rattle.sheet.specs.Checks.{loss_check, surface_check}
 use Rattle.sheet.specs.Passes.{check_between}
 use Rattle.sheet.specs.Answer.{surface_bound, answer_of}
+use Rattle.layout.specs.OwnKind.{own_kind}
 use Rattle.book.specs.Refusals.{same_bytes}
 use Rattle.worked.proofs.Examples.{root_low, root_high, low, high}
-use Rattle.method.specs.Method.{Cylinder, Hotter, Between, FlatWall, BetweenRows, SecondPass, WithJacket, ColdLine, ColdWall, Entry, Method}
+use Rattle.method.specs.Method.{Cylinder, Hotter, Between, FlatWall, BetweenRows, SecondPass, WithJacket, ColdLine, ColdWall, Entry, LargerEntry, Method}
 
 the_cylinder : Cylinder
 unfolding summed lower_step upper_step least insulation film insulation_bounds film_bounds provided requirement enclosing first_not_insufficient big_endian bytes_of decoded_as neighbours loss_limit loss_check surface_check check_between surface_bound encoded answer_of first_fault respond
@@ -178,6 +179,10 @@ an_entry : Entry
 unfolding summed lower_step upper_step least insulation film insulation_bounds film_bounds provided requirement enclosing first_not_insufficient big_endian bytes_of decoded_as neighbours loss_limit loss_check surface_check check_between surface_bound encoded answer_of first_fault respond same_bytes
 an_entry = record { size = refl; offsets = (refl, refl, refl); sizes = (refl, refl); read = refl }
 
+a_larger_entry : LargerEntry
+unfolding summed lower_step upper_step least insulation film insulation_bounds film_bounds provided requirement enclosing first_not_insufficient big_endian bytes_of decoded_as neighbours loss_limit loss_check surface_check check_between surface_bound encoded answer_of first_fault respond same_bytes own_kind
+a_larger_entry = record { line = refl; offsets = (refl, refl, refl); sizes = (refl, refl, refl); read = refl }
+
 pub method : Method
 method =
     record {
@@ -191,4 +196,5 @@ method =
       the_cold_line = the_cold_line;
       the_cold_wall = the_cold_wall;
       an_entry = an_entry;
+      a_larger_entry = a_larger_entry;
     }

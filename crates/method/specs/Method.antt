@@ -19,16 +19,19 @@ use Rattle.refusals.specs.Response.{complete}
 use Rattle.big_endian.specs.Bytes.{bytes_of}
 use Rattle.limits.specs.Limits.{row, table, limit_of, neighbours, interpolated, loss_limit, surface_limit}
 use Rattle.limits.specs.FlatTable.{flat_table, place}
-use Rattle.sheet.specs.Sheet.{decoded, difference, surface_aim, goal_of}
+use Rattle.kinds.specs.declared.Kind.TheVariants.{Larger}
+use Rattle.sheet.specs.Sheet.{line_number_as, decoded, difference, surface_aim, goal_of}
 use Rattle.sheet.specs.Search.{required_of, first_by}
 use Rattle.sheet.specs.Checks.{loss_check}
 use Rattle.sheet.specs.Passes.{second_aim, check_between, deciding_goal, verdicts, chosen}
 use Rattle.sheet.specs.Answer.{surface_bound}
 use Rattle.sheet.specs.Refusals.{response_to}
 use Rattle.worked.specs.Sheets.{sheet_f, sheet_g}
-use Rattle.layout.specs.Layout.{standard, bytes_for, sheet_offset, answer_offset}
+use Rattle.worked.specs.Book.{larger_f, larger_one}
+use Rattle.layout.specs.Layout.{standard, larger, bytes_for, sheet_offset, answer_offset}
+use Rattle.layout.specs.OwnKind.{own_kind}
 use Rattle.layout.specs.Sizes.{capacity, count}
-use Rattle.book.specs.Refusals.{reading}
+use Rattle.book.specs.Refusals.{reading, reading_either}
 
 abbrev bounds : ℕ → ℕ → Bounds
 bounds l u = record { lower = l; upper = u }
@@ -216,6 +219,12 @@ pub record Entry : Type 0 where
   pub sizes : (capacity standard book ≡ 2) × (count standard book ≡ 2)
   pub read : reading standard book 1 ≡ complete (flat ++ (0 ∷ 2 ∷ 0 ∷ 50 ∷ 0 ∷ 0 ∷ 1 ∷ 44 ∷ []))
 
+pub record LargerEntry : Type 0 where
+  pub line : line_number_as Larger larger_f ≡ 100_000
+  pub offsets : (sheet_offset larger 0 ≡ 10) × (answer_offset larger 1 0 ≡ 36) × (bytes_for larger 1 ≡ 44)
+  pub sizes : (own_kind larger_one ≡ Larger) × (capacity larger larger_one ≡ 1) × (count larger larger_one ≡ 1)
+  pub read : reading_either larger_one 0 ≡ complete (larger_f ++ (0 ∷ 2 ∷ 0 ∷ 50 ∷ 0 ∷ 0 ∷ 1 ∷ 44 ∷ []))
+
 pub record Method : Type 0 where
   pub the_cylinder : Cylinder
   pub the_same_hotter : Hotter
@@ -227,3 +236,4 @@ pub record Method : Type 0 where
   pub the_cold_line : ColdLine
   pub the_cold_wall : ColdWall
   pub an_entry : Entry
+  pub a_larger_entry : LargerEntry

@@ -1,4 +1,4 @@
--- The book worked by hand, by computation.
+-- The books worked by hand, by computation.
 -- Assumes nothing.
 use mathlib.Core.Path.{refl}
 use native.Mathlib.Omega.{arith}
@@ -17,9 +17,10 @@ use Rattle.sheet.specs.Fields.{first_fault}
 use Rattle.sheet.specs.Checks.{loss_check, surface_check}
 use Rattle.sheet.specs.Passes.{check_between}
 use Rattle.sheet.specs.Answer.{surface_bound, answer_of}
+use Rattle.layout.specs.OwnKind.{own_kind}
 use Rattle.book.specs.Book.{new_book}
 use Rattle.book.specs.Refusals.{same_bytes}
-use Rattle.worked.specs.Book.{WorkedBook}
+use Rattle.worked.specs.Book.{WorkedBook, WorkedLargerBook}
 
 pub worked_book : WorkedBook
 unfolding overlay lower_step upper_step least insulation film insulation_bounds film_bounds provided requirement enclosing first_not_insufficient big_endian bytes_of decoded_as neighbours loss_limit loss_check surface_check check_between surface_bound encoded answer_of first_fault respond new_book same_bytes
@@ -33,4 +34,19 @@ worked_book =
       beyond = refl;
       full = (refl, refl);
       altered = refl;
+    }
+
+pub worked_larger_book : WorkedLargerBook
+unfolding overlay lower_step upper_step least insulation film insulation_bounds film_bounds provided requirement enclosing first_not_insufficient big_endian bytes_of decoded_as neighbours loss_limit loss_check surface_check check_between surface_bound encoded answer_of first_fault respond new_book same_bytes own_kind
+worked_larger_book =
+    record {
+      line = refl;
+      size = λ c. omega arith;
+      new_made = (refl, refl);
+      first = (refl, refl);
+      read = refl;
+      beyond = refl;
+      full = (refl, refl);
+      other_size = (refl, refl);
+      old_reader = refl;
     }
