@@ -6,6 +6,7 @@ use Rattle.promises.specs.Limits.{Limits}
 use Rattle.promises.specs.ColdLines.{ColdLines}
 use Rattle.promises.specs.WithinLimit.{WithinLimit}
 use Rattle.promises.specs.JacketPrice.{JacketPrice}
+use Rattle.promises.specs.BothKinds.{BothKinds}
 
 pub record Promises : Type 0 where
   -- N1, yearly share from interest and years
@@ -20,3 +21,5 @@ pub record Promises : Type 0 where
   pub within_limit : WithinLimit
   -- N6, the price of the jacket
   pub jacket_price : JacketPrice
+  -- N7, line numbers beyond 65,535
+  pub both_kinds : BothKinds
