@@ -1,7 +1,7 @@
 -- Both kinds of sheets and books beside each other.
 -- Assumes nothing.
 use mathlib.Core.Path.{◌≡◌, refl, ap, ◌∙◌}
-use mathlib.Core.Bool.{Bool, true, false, not, and-eq-true_iff, and-false, or-true}
+use mathlib.Core.Bool.{true, false, and-eq-true_iff, and-false, or-true}
 use mathlib.Core.List.{List, ◌∷◌}
 use Prim.Native.Nat.{ℕ, suc}
 use Prim.Native.Nat.compare
@@ -13,15 +13,16 @@ use Rattle.refusals.specs.Cases.{NoneHolds}
 use Rattle.refusals.specs.Response.{respond}
 use Rattle.big_endian.specs.Bytes.{big_endian, bytes_of}
 use Rattle.big_endian.proofs.Numerals.{number_bytes}
+use Rattle.kinds.specs.declared.Kind.{Kind}
 use Rattle.kinds.specs.declared.Kind.TheVariants.{Standard, Larger}
 use Rattle.sheet.specs.Sheet.{decoded_as}
 use Rattle.sheet.specs.Refusals.{response_as, response_to}
-use Rattle.layout.specs.Layout.{standard}
+use Rattle.layout.specs.Layout.{standard, larger, layout_of}
 use Rattle.layout.specs.OwnKind.{starts_with_zeros, own_kind}
 use Rattle.layout.specs.Sizes.{capacity}
 use Rattle.layout.specs.Refusals.{wrong_size, book_cases}
 use Rattle.layout.proofs.Soundness.{right_size}
-use Rattle.promises.specs.BothKinds.{LargerSheets, OldReader, AsBefore, BothKinds}
+use Rattle.promises.specs.BothKinds.{LargerSheets, OldReader, TakenIn, BothKinds}
 
 -- a length is 26 where the one without two bytes is 24
 two_less : (n : ℕ) → eqb (suc (suc n)) 26 ≡ eqb n 24
@@ -37,15 +38,24 @@ module _ (goal service n₁ n₂ m₁ m₂ m₃ m₄ : ℕ) (rest : List ℕ) wh
 
 larger_sheets : LargerSheets
 unfolding big_endian bytes_of
-larger_sheets = record { size = refl; numbers = λ goal service n rest lt. number_bytes 4 n lt; same_response = same_response }
+larger_sheets =
+    record {
+      size = refl;
+      numbers = λ goal service n rest lt. number_bytes 4 n lt;
+      as_standard = λ goal service n₁ n₂ m₁ m₂ m₃ m₄ rest. (same_fields goal service n₁ n₂ m₁ m₂ m₃ m₄ rest, same_response goal service n₁ n₂ m₁ m₂ m₃ m₄ rest);
+    }
 
 module _ (book : List ℕ) where
-  own_standard : starts_with_zeros book ≡ false → own_kind book ≡ Standard
-  unfolding own_kind
-  own_standard e = rw e refl
+  taken : (kind : Kind) → own_kind book ≡ kind → TakenIn (layout_of kind) book
+  taken kind own = record { same_filing = λ sheet. rw own (refl, refl); same_reading = λ n. rw own refl }
 
-  as_before : starts_with_zeros book ≡ false → AsBefore book
-  as_before e = let own = own_standard e in record { same_filing = λ sheet. rw own (refl, refl); same_reading = λ n. rw own refl }
+  as_before : starts_with_zeros book ≡ false → TakenIn standard book
+  unfolding own_kind
+  as_before e = taken Standard (rw e refl)
+
+  as_larger : starts_with_zeros book ≡ true → TakenIn larger book
+  unfolding own_kind
+  as_larger e = taken Larger (rw e refl)
 
   old_reader : starts_with_zeros book ≡ true → OldReader book
   unfolding respond
@@ -65,7 +75,8 @@ both_kinds =
     record {
       larger_sheets = larger_sheets;
       restated = λ book. refl;
-      old_reader = old_reader;
+      slots = λ c e. (refl, refl);
+      as_larger = λ book e. (old_reader book e, as_larger book e);
       as_before = as_before;
       sound_standard = λ book none. as_before book (told_standard book none);
     }
