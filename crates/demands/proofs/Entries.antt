@@ -11,7 +11,7 @@ use lib.ListN.{length, replicate, length-replicate}
 use borrow.Author.Tests.{ne_eqb, le-ltb}
 use Rattle.overlay.specs.Overlay.{part, overlay}
 use Rattle.overlay.proofs.Parts.{length_overlay, part_at, part_before, part_after}
-use Rattle.big_endian.specs.Bytes.{big_endian, bytes_of}
+use Rattle.big_endian.specs.Bytes.{bytes_of}
 use Rattle.big_endian.proofs.Numerals.{same_number, length_bytes, number_put, number_zeros}
 use Rattle.kinds.specs.declared.Kind.{Kind}
 use Rattle.kinds.specs.declared.Kind.TheVariants.{Standard, Larger}

@@ -1,5 +1,5 @@
--- An entry filed in a new book of either kind reads back equal: filing keeps the kind and every entry, and the new one is the sheet with its
--- answer.
+-- An entry filed in a new book of either kind reads back equal: filing keeps the kind and every entry, and the new one is the sheet with
+-- its answer.
 -- Assumes nothing.
 use mathlib.Core.Path.{◌≡◌, refl, sym, ap, ◌∙◌}
 use mathlib.Core.List.{List, [], ◌∷◌, ◌++◌}
@@ -23,7 +23,7 @@ use Rattle.layout.specs.Sizes.{capacity, count}
 use Rattle.layout.proofs.Soundness.{right_size, sound}
 use Rattle.layout.proofs.BothKinds.{usable_of}
 use Rattle.book.specs.Book.{stored_sheet, stored_answer, with_entry}
-use Rattle.book.specs.Refusals.{making_cases, filing_cases, making, made, filing, filing_either, filed_either, reading_either}
+use Rattle.book.specs.Refusals.{making_cases, filing_cases, making, made, filing, reading, filing_either, filed_either}
 use Rattle.book.proofs.Responses.{filing_room, reading_sound}
 use Rattle.book.proofs.Sameness.{same_self}
 use Rattle.book.proofs.SheetSize.{size_answered}
@@ -92,10 +92,10 @@ module _ (kind : Kind) where
     entry_new : IsBook book → Holds (count l book) sheet (with_entry l book sheet bytes)
     entry_new b = record { its = still b; below = rw (raised l book sheet bytes r) (omega arith); sheet_there = new_sheet l book sheet bytes r; answer_there = new_answer l book sheet bytes r }
 
-  reads : (e : ℕ) (sheet book : List ℕ) → response_as l.sheets sheet ≡ complete (bytes_to sheet) → Holds e sheet book → reading_either book e ≡ complete (sheet ++ bytes_to sheet)
+  reads : (e : ℕ) (sheet book : List ℕ) → response_as l.sheets sheet ≡ complete (bytes_to sheet) → Holds e sheet book → reading l book e ≡ complete (sheet ++ bytes_to sheet)
   unfolding respond
   reads e sheet book answered h =
-      rw (h.its.kind_is, reading_sound h.its.is e (sym h.sheet_there) (sym h.answer_there), lt-leb _ _ h.below, answered, same_self (bytes_to sheet))
+      rw (reading_sound h.its.is e (sym h.sheet_there) (sym h.answer_there), lt-leb _ _ h.below, answered, same_self (bytes_to sheet))
 
   -- a book that filings made of a new one of capacity c
   module _ (lent : List ℕ) (c : ℕ) (made_so : making l lent c ≡ complete []) where
@@ -141,4 +141,5 @@ module _ (kind : Kind) where
       let new = complete_filing book sheet so in
       let there : Holds (count l book) sheet (filed_either book sheet) = rw (is.kind_is, so) (entry_new book sheet new.0 is) in
       let still = kept (Holds (count l book) sheet) (λ b h. h.its.kind_is) (λ b s h r. entry_kept b s r (count l book) sheet h) later (filed_either book sheet) there in
-      rw (← new.2) (reads (count l book) sheet (filed_all (filed_either book sheet) later) (new.1 ∙ ap complete (sym new.2)) still, still.sheet_there, still.answer_there)
+      let read = reads (count l book) sheet (filed_all (filed_either book sheet) later) (new.1 ∙ ap complete (sym new.2)) still in
+      rw (← new.2, still.its.kind_is) (read, read, still.sheet_there, still.answer_there)

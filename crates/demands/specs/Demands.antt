@@ -131,7 +131,7 @@ filed_all book [] = book
 filed_all book (sheet ∷ sheets) = filed_all (filed_either book sheet) sheets
 
 -- "an entry filed in a new book reads back equal, however many are filed after it": for both kinds and every capacity, whatever was filed
--- before
+-- before, by the reader of both kinds and by that of this kind alone
 abbrev pub ReadsBack : Kind → Type 0
 ReadsBack kind =
     let l = layout_of kind in
@@ -142,7 +142,8 @@ ReadsBack kind =
     (later : List (List ℕ)) →
     let kept = filed_all (filed_either book sheet) later in
     let e = count l book in
-    (reading_either kept e ≡ complete (sheet ++ bytes)) × (stored_sheet l kept e ≡ sheet) × (stored_answer l kept e ≡ bytes)
+    (reading_either kept e ≡ complete (sheet ++ bytes)) × (reading l kept e ≡ complete (sheet ++ bytes)) ×
+    (stored_sheet l kept e ≡ sheet) × (stored_answer l kept e ≡ bytes)
 
 -- and such a book, of capacity c, takes c sheets: it starts empty, and keeps its kind and its capacity; while there is room the sheet alone
 -- decides, and each sheet that is filed counts one
