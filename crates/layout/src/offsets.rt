@@ -52,15 +52,9 @@ impl BookLayout {
     pub fn own(book: &[u8]) -> BookLayout
         ensures { result.plain ≡ own_layout book.now }
     {
-        let short = book.len() < 2;
-        if short {
-            return BookLayout::of(Kind::Standard);
-        }
-        let zeros = unsigned(book, 0) == 0;
-        if zeros {
-            return BookLayout::of(Kind::Larger);
-        }
-        BookLayout::of(Kind::Standard)
+        let larger = book.len() >= 2 && unsigned(book, 0) == 0;
+        let kind = if larger { Kind::Larger } else { Kind::Standard };
+        BookLayout::of(kind)
     }
 
     // Where the count stands.
