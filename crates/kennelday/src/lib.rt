@@ -77,7 +77,7 @@ pub fn kd_read(book: &[u8], entry: u64, sheet: &mut [u8; 24], answer: &mut [u8; 
     hand_over(read(book, entry, sheet, answer), &mut ())
 }
 
-// An entry of a book of either kind. The sheet of a standard one is put into the first 24 bytes.
+// An entry of a book of either kind. The sheet of a standard one is put into the first 24 bytes, and the other two stay as they were.
 pub fn kd_read_either(book: &[u8], entry: u64, sheet: &mut [u8; 26], answer: &mut [u8; 8]) -> u8
     ensures value { result ≡ code (reading_either book.now entry) }
     ensures sheet_after { let stored = stored_sheet (own_layout book.now) book.now entry in

@@ -71,7 +71,7 @@ pub extern "C" fn kd_read(book: &[u8], entry: u64, sheet: &mut [u8; 24], answer:
     kennelday::kd_read(book, entry, sheet, answer)
 }
 
-// An entry of a book of either kind. The sheet of a standard one is put into the first 24 bytes.
+// An entry of a book of either kind. The sheet of a standard one is put into the first 24 bytes, and the other two stay as they were.
 #[unsafe(no_mangle)]
 pub extern "C" fn kd_read_either(book: &[u8], entry: u64, sheet: &mut [u8; 26], answer: &mut [u8; 8]) -> u8
     ensures value { result ≡ code (reading_either book.now entry) }

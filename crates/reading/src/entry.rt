@@ -68,7 +68,8 @@ fn slot(book: &[u8], offset: usize, size: usize) -> &[u8]
     &book[offset..end]
 }
 
-// Whether the sheet of this kind is answered, and with these bytes. Not `is_ok_and`: tried, and the proof that the bytes decide did not close.
+// Whether the sheet of this kind is answered, and with these bytes. Not `is_ok_and`: tried, and the proof that the bytes decide did not
+// close.
 fn is_answer(kind: Kind, sheet: &[u8], filed: &[u8]) -> bool
     ensures { result ≡ gives (response_as kind sheet.now) filed.now }
 {

@@ -20,7 +20,7 @@ use overlay::put;
 use refusals::Refusal;
 
 // Reads an entry of a standard book into the two arrays, which are lent as the C interface lends them, after working its sheet out again. A
-// larger book is refused with 31, as by every reader that knows none.
+// larger book is refused with 31, as an old reader refuses it.
 pub fn read(
     book: &[u8],
     entry: u64,

@@ -80,8 +80,8 @@ fn counts_jacket(code: u64) -> bool
 
 // The goal's code as it is written and as it is read, the direction of the heat's flow, whether the goal respects the loss limit and
 // whether it counts the jacket, the service, the insulated line, the temperatures t of the pipe and ta of the air, the economy terms, and
-// the aim as it is written. Any bytes of the right length are a sheet, so code and service are numbers: refusal 12 is of a number that is no goal or
-// service.
+// the aim as it is written. Any bytes of the right length are a sheet, so code and service are numbers: refusal 12 is of a number that is no
+// goal or service.
 #[derive(Clone, Copy, Debug, PartialEq, Eq)]
 pub struct Sheet {
     pub code: u64,
