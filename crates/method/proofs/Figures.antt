@@ -180,8 +180,8 @@ unfolding summed lower_step upper_step least insulation film insulation_bounds f
 an_entry = record { size = refl; offsets = (refl, refl, refl); sizes = (refl, refl); read = refl }
 
 a_larger_entry : LargerEntry
-unfolding summed lower_step upper_step least insulation film insulation_bounds film_bounds provided requirement enclosing first_not_insufficient big_endian bytes_of decoded_as neighbours loss_limit loss_check surface_check check_between surface_bound encoded answer_of first_fault respond same_bytes own_kind
-a_larger_entry = record { line = refl; offsets = (refl, refl, refl); sizes = (refl, refl, refl); read = refl }
+unfolding big_endian own_kind
+a_larger_entry = record { offsets = (refl, refl, refl); sizes = (refl, refl, refl) }
 
 pub method : Method
 method =

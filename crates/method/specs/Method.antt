@@ -1,4 +1,5 @@
--- The figures of docs/METHOD.md, section by section, beside those that `Worked`, of `worked`, has: P1, P2, P4, P8 and the answer to F.
+-- The figures of docs/METHOD.md, section by section, beside those that `worked` has: P1, P2, P4, P8 and the answer to F in `Worked`, and the
+-- larger book's line number and reading in `WorkedLargerBook`.
 -- Assumes nothing.
 use Rattle.std.specs.Prelude.{ℕ, ◌*◌, ◌≡◌, Some, List, [], ◌∷◌, ◌++◌, get_or}
 use Rattle.std.proofs.Math.Option.{none, some}
@@ -20,18 +21,18 @@ use Rattle.big_endian.specs.Bytes.{bytes_of}
 use Rattle.limits.specs.Limits.{row, table, limit_of, neighbours, interpolated, loss_limit, surface_limit}
 use Rattle.limits.specs.FlatTable.{flat_table, place}
 use Rattle.kinds.specs.declared.Kind.TheVariants.{Larger}
-use Rattle.sheet.specs.Sheet.{line_number_as, decoded, difference, surface_aim, goal_of}
+use Rattle.sheet.specs.Sheet.{decoded, difference, surface_aim, goal_of}
 use Rattle.sheet.specs.Search.{required_of, first_by}
 use Rattle.sheet.specs.Checks.{loss_check}
 use Rattle.sheet.specs.Passes.{second_aim, check_between, deciding_goal, verdicts, chosen}
 use Rattle.sheet.specs.Answer.{surface_bound}
 use Rattle.sheet.specs.Refusals.{response_to}
 use Rattle.worked.specs.Sheets.{sheet_f, sheet_g}
-use Rattle.worked.specs.Book.{larger_f, larger_one}
+use Rattle.worked.specs.Book.{larger_one}
 use Rattle.layout.specs.Layout.{standard, larger, bytes_for, sheet_offset, answer_offset}
 use Rattle.layout.specs.OwnKind.{own_kind}
 use Rattle.layout.specs.Sizes.{capacity, count}
-use Rattle.book.specs.Refusals.{reading, reading_either}
+use Rattle.book.specs.Refusals.{reading}
 
 abbrev bounds : ℕ → ℕ → Bounds
 bounds l u = record { lower = l; upper = u }
@@ -220,10 +221,8 @@ pub record Entry : Type 0 where
   pub read : reading standard book 1 ≡ complete (flat ++ (0 ∷ 2 ∷ 0 ∷ 50 ∷ 0 ∷ 0 ∷ 1 ∷ 44 ∷ []))
 
 pub record LargerEntry : Type 0 where
-  pub line : line_number_as Larger larger_f ≡ 100_000
   pub offsets : (sheet_offset larger 0 ≡ 10) × (answer_offset larger 1 0 ≡ 36) × (bytes_for larger 1 ≡ 44)
   pub sizes : (own_kind larger_one ≡ Larger) × (capacity larger larger_one ≡ 1) × (count larger larger_one ≡ 1)
-  pub read : reading_either larger_one 0 ≡ complete (larger_f ++ (0 ∷ 2 ∷ 0 ∷ 50 ∷ 0 ∷ 0 ∷ 1 ∷ 44 ∷ []))
 
 pub record Method : Type 0 where
   pub the_cylinder : Cylinder
