@@ -27,7 +27,7 @@ use Rattle.book.specs.Refusals.{making_cases, filing_cases, making, made, filing
 use Rattle.book.proofs.Responses.{filing_room, reading_sound}
 use Rattle.book.proofs.Sameness.{same_self}
 use Rattle.book.proofs.SheetSize.{size_answered}
-use Rattle.demands.specs.Demands.{filed_all, ReadsBack, TakesSheets}
+use Rattle.demands.specs.Demands.{filed_all, filed_in_new, ReadsBack, TakesSheets}
 use Rattle.demands.proofs.Entries.{stated, Sound, Room, new_capacity, new_count, new_sound, new_kind, before_count, same_kind, same_capacity, still_sound, raised, new_sheet, new_answer, same_sheet, same_answer}
 
 sheets_of : (kind : Kind) → (layout_of kind).sheets ≡ kind
@@ -110,14 +110,14 @@ module _ (kind : Kind) where
     new : Kept (made l lent c)
     new = rw made_so (record { its = record { kind_is = new_kind kind c fits.0 fits.1; is = new_sound l c (usable_of kind) fits.1 fits.0 }; holds_c = new_capacity l c (usable_of kind) fits.1 })
 
-    still_kept : (before : List (List ℕ)) → Kept (filed_all (made l lent c) before)
+    still_kept : (before : List (List ℕ)) → Kept (filed_in_new kind lent c before)
     still_kept before =
         kept Kept (λ book k. k.its.kind_is)
         (λ book sheet k r. record { its = still book sheet r k.its; holds_c = same_capacity l book sheet (bytes_to sheet) r ∙ k.holds_c })
         before (made l lent c) new
 
     -- where a filing is complete
-    filed_in : (before : List (List ℕ)) (sheet bytes : List ℕ) → let book = filed_all (made l lent c) before in filing_either book sheet ≡ complete bytes → filing l book sheet ≡ complete bytes
+    filed_in : (before : List (List ℕ)) (sheet bytes : List ℕ) → let book = filed_in_new kind lent c before in filing_either book sheet ≡ complete bytes → filing l book sheet ≡ complete bytes
     filed_in before sheet bytes h = rw (still_kept before).its.kind_is at h
 
     pub takes_sheets : TakesSheets kind lent c
@@ -128,14 +128,14 @@ module _ (kind : Kind) where
           keeps_capacity = λ before. (still_kept before).holds_c;
           sheet_decides = λ before sheet room. (let is = (still_kept before).its in rw is.kind_is (filing_room is.is sheet (λ e. omega (arith, (still_kept before).holds_c)) ∙ ap (λ k. response_as k sheet) (sheets_of kind)));
           counts_one = λ before sheet bytes filed_so.
-              let book = filed_all (made l lent c) before in
+              let book = filed_in_new kind lent c before in
               let so = filed_in before sheet bytes filed_so in
               rw ((still_kept before).its.kind_is, so) (raised l book sheet (bytes_to sheet) (complete_filing book sheet so).0);
         }
 
   pub reads_back : ReadsBack kind
   reads_back lent c made_so before sheet bytes filed_so later =
-      let book = filed_all (made l lent c) before in
+      let book = filed_in_new kind lent c before in
       let is = (still_kept lent c made_so before).its in
       let so = filed_in lent c made_so before sheet bytes filed_so in
       let new = complete_filing book sheet so in

@@ -130,6 +130,10 @@ unfoldable pub filed_all : List ℕ → List (List ℕ) → List ℕ
 filed_all book [] = book
 filed_all book (sheet ∷ sheets) = filed_all (filed_either book sheet) sheets
 
+-- that of such filings in a new book of a kind, made over lent bytes with capacity c
+abbrev pub filed_in_new : Kind → List ℕ → ℕ → List (List ℕ) → List ℕ
+filed_in_new kind lent c sheets = filed_all (made (layout_of kind) lent c) sheets
+
 -- "an entry filed in a new book reads back equal, however many are filed after it": for both kinds and every capacity, whatever was filed
 -- before, by the reader of both kinds and by that of this kind alone
 abbrev pub ReadsBack : Kind → Type 0
@@ -137,7 +141,7 @@ ReadsBack kind =
     let l = layout_of kind in
     (lent : List ℕ) (c : ℕ) → making l lent c ≡ complete [] →
     (before : List (List ℕ)) (sheet bytes : List ℕ) →
-    let book = filed_all (made l lent c) before in
+    let book = filed_in_new kind lent c before in
     filing_either book sheet ≡ complete bytes →
     (later : List (List ℕ)) →
     let kept = filed_all (filed_either book sheet) later in
@@ -149,15 +153,15 @@ ReadsBack kind =
 -- decides, and each sheet that is filed counts one
 pub record TakesSheets (kind : Kind) (lent : List ℕ) (c : ℕ) : Type 0 where
   pub starts_empty : count (layout_of kind) (made (layout_of kind) lent c) ≡ 0
-  pub keeps_kind : (before : List (List ℕ)) → own_kind (filed_all (made (layout_of kind) lent c) before) ≡ kind
-  pub keeps_capacity : (before : List (List ℕ)) → capacity (layout_of kind) (filed_all (made (layout_of kind) lent c) before) ≡ c
+  pub keeps_kind : (before : List (List ℕ)) → own_kind (filed_in_new kind lent c before) ≡ kind
+  pub keeps_capacity : (before : List (List ℕ)) → capacity (layout_of kind) (filed_in_new kind lent c before) ≡ c
   pub sheet_decides :
       (before : List (List ℕ)) (sheet : List ℕ) →
-      let book = filed_all (made (layout_of kind) lent c) before in
+      let book = filed_in_new kind lent c before in
       count (layout_of kind) book < c → filing_either book sheet ≡ response_as kind sheet
   pub counts_one :
       (before : List (List ℕ)) (sheet bytes : List ℕ) →
-      let book = filed_all (made (layout_of kind) lent c) before in
+      let book = filed_in_new kind lent c before in
       filing_either book sheet ≡ complete bytes → count (layout_of kind) (filed_either book sheet) ≡ count (layout_of kind) book + 1
 
 -- Demand 2, of sheets and of the book
