@@ -8,7 +8,7 @@ ghost use Rattle.book.specs.Book.{stored_sheet, stored_answer};
 ghost use Rattle.book.specs.Refusals.{gives, reading};
 
 use kinds::Kind;
-use layout::{Book, BookLayout};
+use layout::BookLayout;
 use outcome::work_out_as;
 use refusals::Refusal;
 
@@ -19,38 +19,25 @@ pub(crate) struct Entry<'a> {
     pub answer: &'a [u8],
 }
 
-// The entry of this number in the book that these bytes are in a layout. Inlined, with what it calls: of a standard book the layout is known
-// then, and reading takes some 15 to 20 ns less.
+// The entry of this number in the book that these bytes are in a layout, after working its sheet out again. Inlined: of a standard book the
+// layout is known then, and reading takes some 15 to 20 ns less.
 #[inline(always)]
+#[tactic(auto, unfolding(refusals::specs::Response::respond))]
 pub(crate) fn entry_in(layout: BookLayout, bytes: &[u8], number: u64) -> Result<Entry<'_>, Refusal>
     ensures response { response_of (λ e. e.sheet.now ++ e.answer.now) result ≡ reading layout.plain bytes.now number }
     ensures stored { let l = layout.plain in
         IfOk result (λ e. (e.sheet.now ≡ stored_sheet l bytes.now number) × (e.answer.now ≡ stored_answer l bytes.now number)) }
     ensures sizes { IfOk result (λ e. (length e.sheet.now ≡ sheet_size layout.plain.sheets) × (length e.answer.now ≡ 8)) }
 {
-    entry_of(layout.examine(bytes)?, number)
-}
-
-// The entry of this number in a sound book, after working its sheet out again.
-#[inline(always)]
-#[tactic(auto, unfolding(refusals::specs::Response::respond))]
-fn entry_of(book: Book<'_>, number: u64) -> Result<Entry<'_>, Refusal>
-    ensures response { let b = book.entry in
-        response_of (λ e. e.sheet.now ++ e.answer.now) result ≡ reading b.layout.plain b.bytes.now number }
-    ensures stored { let l = book.entry.layout.plain in
-        let b = book.entry.bytes.now in
-        IfOk result (λ e. (e.sheet.now ≡ stored_sheet l b number) × (e.answer.now ≡ stored_answer l b number)) }
-    ensures sizes { let l = book.entry.layout.plain in
-        IfOk result (λ e. (length e.sheet.now ≡ sheet_size l.sheets) × (length e.answer.now ≡ 8)) }
-{
-    if book.sizes.count <= number {
+    let sizes = layout.examine(bytes)?.sizes;
+    if sizes.count <= number {
         return Err(Refusal::NoSuchEntry);
     }
-    let sheet_offset = book.layout.sheet_offset(number);
-    let answer_offset = book.layout.answer_offset(book.sizes.capacity, number);
-    let kind = book.layout.plain.sheets;
-    let sheet = slot(book.bytes, sheet_offset, kind.sheet_size());
-    let answer = slot(book.bytes, answer_offset, 8);
+    let sheet_offset = layout.sheet_offset(number);
+    let answer_offset = layout.answer_offset(sizes.capacity, number);
+    let kind = layout.plain.sheets;
+    let sheet = slot(bytes, sheet_offset, kind.sheet_size());
+    let answer = slot(bytes, answer_offset, 8);
     let right = is_answer(kind, sheet, answer);
     if right {
         Ok(Entry { sheet, answer })
