@@ -1,5 +1,5 @@
 -- The book's refusals, refusal 34, the refusals of the sheet, and the entry.
-use Rattle.std.proofs.Common.{◌≡◌, ℕ, List, refl, sym, ◌∙◌, rules}
+use Rattle.std.proofs.Common.{◌≡◌, ℕ, List, refl, sym, rules}
 use Rattle.std.proofs.lemmas.Result.{err_from_is_err_and}
 use borrow.Author.Tests.{eq-eqb}
 use Rattle.refusals.specs.Response.{respond}
