@@ -11,7 +11,7 @@ use lib.ListN.{length, replicate, length-replicate}
 use borrow.Author.Tests.{ne_eqb, le-ltb}
 use Rattle.overlay.specs.Overlay.{part, overlay}
 use Rattle.overlay.proofs.Parts.{length_overlay, part_at, part_before, part_after}
-use Rattle.big_endian.specs.Bytes.{bytes_of}
+use Rattle.big_endian.specs.Bytes.{big_endian, bytes_of}
 use Rattle.big_endian.proofs.Numerals.{same_number, length_bytes, number_put, number_zeros}
 use Rattle.kinds.specs.declared.Kind.{Kind}
 use Rattle.kinds.specs.declared.Kind.TheVariants.{Standard, Larger}
@@ -72,17 +72,18 @@ pub before_count : (kind : Kind) → 2 ≤ count_offset (layout_of kind)
 before_count Standard = omega arith
 before_count Larger = omega arith
 
+new_start : (c : ℕ) → big_endian (new_book larger c) 0 2 ≡ 0
+unfolding new_book
+new_start c =
+    let zeros : List ℕ = replicate (bytes_for larger c) 0 in
+    same_number (new_book larger c) zeros 0 0 2
+    (part_before zeros 2 (bytes_of 4 c) 0 2 (omega arith) (omega (arith, length-replicate {A = ℕ} (bytes_for larger c) 0)))
+    ∙ number_zeros (bytes_for larger c) 0 2 (omega arith)
+
 pub new_kind : (kind : Kind) (c : ℕ) → 1 ≤ c → c ≤ (layout_of kind).largest → own_kind (new_book (layout_of kind) c) ≡ kind
-unfolding own_kind new_book
+unfolding own_kind
 new_kind Standard c some most = rw (new_capacity standard c (usable_of Standard) most, ne_eqb c 0 (λ e. omega arith), and-false)
-new_kind Larger c some most =
-    let usable = usable_of Larger in
-    let size = bytes_for larger c in
-    let start =
-        same_number (new_book larger c) (replicate size 0) 0 0 2
-        (part_before (replicate size 0) 2 (bytes_of 4 c) 0 2 (omega arith) (omega (arith, length-replicate {A = ℕ} size 0)))
-        ∙ number_zeros size 0 2 (omega arith) in
-    rw (start, new_length larger c usable most, le-ltb size 2 (omega arith))
+new_kind Larger c some most = rw (new_start c, new_length larger c (usable_of Larger) most, le-ltb (bytes_for larger c) 2 (omega arith))
 
 -- a part that lies apart from bytes put over others is as it was
 apart :

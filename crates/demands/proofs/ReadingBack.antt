@@ -30,6 +30,7 @@ use Rattle.book.proofs.SheetSize.{size_answered}
 use Rattle.demands.specs.Demands.{filed_all, filed_in_new, ReadsBack, TakesSheets}
 use Rattle.demands.proofs.Entries.{stated, Sound, Room, new_capacity, new_count, new_sound, new_kind, before_count, same_kind, same_capacity, still_sound, raised, new_sheet, new_answer, same_sheet, same_answer}
 
+-- the sheets of a kind's book are of that kind
 sheets_of : (kind : Kind) → (layout_of kind).sheets ≡ kind
 sheets_of Standard = refl
 sheets_of Larger = refl

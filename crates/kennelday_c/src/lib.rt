@@ -73,7 +73,12 @@ pub extern "C" fn kd_read(book: &[u8], entry: u64, sheet: &mut [u8; 24], answer:
 
 // An entry of a book of either kind. The sheet of a standard one is put into the first 24 bytes, and the other two stay as they were.
 #[unsafe(no_mangle)]
-pub extern "C" fn kd_read_either(book: &[u8], entry: u64, sheet: &mut [u8; 26], answer: &mut [u8; 8]) -> u8
+pub extern "C" fn kd_read_either(
+    book: &[u8],
+    entry: u64,
+    sheet: &mut [u8; 26],
+    answer: &mut [u8; 8],
+) -> u8
     ensures value { result ≡ code (reading_either book.now entry) }
     ensures sheet_after { let stored = stored_sheet (own_layout book.now) book.now entry in
         sheet.new ≡ after (reading_either book.now entry) (overlay sheet.old 0 stored) sheet.old }
