@@ -1,9 +1,9 @@
 #!/usr/bin/env python3
-"""The book of either kind by documents 01 and 02, computed by itself: plain, and sharing nothing with the crates.
+"""Books of both kinds by documents 01 and 02, computed plainly and sharing nothing with the crates.
 
     python3 tools/book.py
 
-works a larger book of capacity 1 out, with sheet F of document 01 as a larger sheet, and prints its bytes in decimal, array by array.
+works out a larger book of capacity 1, with sheet F of document 01 as a larger sheet, and prints its bytes in decimal, array by array.
 
 A call gives the number of a refusal, which changes no byte, or its result. Each sentence of the documents stands above what does it, with
 its document's number.
@@ -60,7 +60,7 @@ def sizes(layout, book):
 
 
 def misfit(layout, book, capacity):
-    """Whether a book of that capacity cannot have that length, or none can have that capacity."""
+    """Whether bytes of that length cannot be a book of that capacity, or no book can have it."""
     # 01: "31: under 4 bytes, c outside 1 to 1,000, or length not 4 + 32c."
     # 02: "over a lent buffer of 10 + 34c bytes" and "with 31 and 32 restated for the larger sizes"
     sheets, _, end = borders(layout, capacity)
@@ -79,7 +79,7 @@ def fault(layout, book):
 
 
 def make(layout, book, capacity):
-    """Makes a new book out of lent bytes; nothing to give."""
+    """Makes a new book out of lent bytes; None where it is made."""
     # 01: "Making a new book has this refusal only; c is then the capacity wanted."
     if misfit(layout, book, capacity):
         return 31

@@ -89,7 +89,7 @@ pub fn file_in_each(
 type Reader<const N: usize> = fn(&[u8], u64, &mut [u8; N], &mut [u8; ANSWER_LENGTH]) -> Outcome;
 
 /// Reads by the call for either kind, and by the one for standard books, which
-/// agrees with it on those and to which a larger book is 31. A standard sheet
+/// agrees with it on those and gives 31 to a larger book. A standard sheet
 /// leaves the last two of the bytes that the first call is lent for a sheet.
 pub fn read(book: &[u8], entry: u64) -> Result<Entry, Refusal> {
     let plain = plain::read_either(book, entry);

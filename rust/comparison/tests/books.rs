@@ -1,6 +1,6 @@
 //! Books of both kinds, sound and damaged, by the proved calls and by the plain
-//! ones. After each call the whole book is compared, but while a book of 100,000
-//! is filled only now and then.
+//! ones. After each call the whole book is compared; while a book of 100,000 is
+//! filled, only now and then.
 
 use comparison::both;
 use comparison::plain::{self, Entry, Goal, Layout, Refusal, LARGER, STANDARD};
@@ -401,7 +401,7 @@ const INTERVAL: usize = 997;
 /// How many of their first entries are filed again.
 const AGAIN: usize = 500;
 
-/// Another one for each entry, spread over all that four bytes can hold.
+/// A different one for each entry, spread over all that four bytes can hold.
 fn line_number(entry: usize) -> [u8; 4] {
     (40_503 * entry as u32).to_be_bytes()
 }

@@ -1,6 +1,6 @@
 //! Larger sheets, with a line number of four bytes: 200,000 that are made from
-//! standard ones, by the proved call and by the plain one, and some of the papers
-//! byte by byte, filed in a larger book.
+//! standard ones, by the proved call and by the plain one, and sheets of the
+//! papers byte by byte, filed in a larger book.
 
 use comparison::both;
 use comparison::plain::{self, Goal, Method, Refusal, LARGER, STANDARD};
