@@ -305,8 +305,8 @@ for line in sys.stdin:
     print(text(line.split("|")[2]))
 END
 
-# The lengths are 10 + 34c and 4 + 32c, and entry e is at 10 + 26e and 10 + 26c + 8e, or at 4 + 24e and 4 + 24c + 8e. As bytes 1,000 is 3 232,
-# 1,001 is 3 233, 100,000 is 0 1 134 160 and 100,001 is 0 1 134 161.
+# The lengths are 10 + 34c and 4 + 32c, and entry e is at 10 + 26e and 10 + 26c + 8e, or at 4 + 24e and 4 + 24c + 8e. As bytes 1,000 is
+# 3 232, 1,001 is 3 233, 100,000 is 0 1 134 160 and 100,001 is 0 1 134 161.
 cat >"$made/rows" <<'END'
 a new larger book, capacity 1|made|makes(LARGER, 1, 44, {5: [1]})
 a new larger book, capacity 100,000|made|makes(LARGER, 100_000, 3_400_010, {3: [1, 134, 160]})
