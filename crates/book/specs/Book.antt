@@ -1,4 +1,4 @@
--- What a book holds, and what making and filing make of it. 01, "The book".
+-- What a book holds, and what making and filing make of it. 01, "The book", and 02, N7.
 -- Assumes nothing.
 use Rattle.std.specs.Prelude.{ℕ, ◌+◌, List, replicate}
 use Rattle.overlay.specs.Overlay.{part, overlay}

@@ -45,8 +45,8 @@ sheet_order = 11 ∷ 12 ∷ 13 ∷ 14 ∷ 15 ∷ 16 ∷ 43 ∷ 17 ∷ 18 ∷ []
 
 -- Demand 1: "The answer to every sheet and to every book, sound or damaged, is the number of the first listed refusal, in the listed order,
 -- whose stated case holds, and is complete when none holds; a refused filing changes no byte of the book, and a caller has nothing to check
--- beforehand." This says it of the calls that answer, make, file and read, for both kinds of sheets and every layout of a book; no call has
--- a `requires`.
+-- beforehand." This says it of the calls that answer, make, file and read, for both kinds of sheets and every layout of a book, that which
+-- a book's own bytes tell among them; no call has a `requires`.
 pub record Demand1 : Type 0 where
   pub of_sheets : (kind : Kind) (sheet : List ℕ) → FirstOrComplete (cases_as kind sheet) (answer_as kind sheet) (response_as kind sheet)
   pub of_making : (l : Layout) (book : List ℕ) (c : ℕ) → FirstOrComplete (making_cases l book c) [] (making l book c)
@@ -164,7 +164,7 @@ pub record TakesSheets (kind : Kind) (lent : List ℕ) (c : ℕ) : Type 0 where
       let book = filed_in_new kind lent c before in
       filing_either book sheet ≡ complete bytes → count (layout_of kind) (filed_either book sheet) ≡ count (layout_of kind) book + 1
 
--- Demand 2, of sheets and of the book
+-- Demand 2, of sheets and of books
 pub record Demand2 : Type 0 where
   pub of_sheets : (kind : Kind) (sheet : List ℕ) → SheetDemand2 kind sheet
   pub reads_back : (kind : Kind) → ReadsBack kind

@@ -10,7 +10,7 @@ use Rattle.sheet.specs.Sheet.{decoded_as}
 use Rattle.sheet.specs.declared.faults.Field.{Field}
 use Rattle.sheet.specs.Fields.{fields}
 
--- what stands at an offset of the table: the codes have one byte, every other field two, and they stand two bytes further on in a larger
+-- what stands at an offset of the table: the codes have one byte; every other field has two, which stand two bytes further on in a larger
 -- sheet; t and ta are signed
 abbrev pub stands_at : Kind → List ℕ → ℕ → ℕ
 stands_at kind b offset =

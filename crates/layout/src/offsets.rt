@@ -47,7 +47,7 @@ impl BookLayout {
         BookLayout { plain }
     }
 
-    // That which a book's first two bytes tell.
+    // The one that a book's first two bytes tell.
     #[tactic(auto, unfolding(crate::specs::OwnKind::own_kind))]
     pub fn own(book: &[u8]) -> BookLayout
         ensures { result.plain ≡ own_layout book.now }

@@ -9,7 +9,7 @@ use crate::{GoalCode, Sheet};
 use refusals::{Refusal, outside};
 use temperatures::Temperature;
 
-// A field: its offset, its value and its range, and the refusal that a value outside it brings.
+// A field: its offset in 01's table, its value and its range, and the refusal that a value outside it brings.
 #[derive(Clone, Copy)]
 pub struct Field {
     pub refusal: Refusal,

@@ -1,2 +1,2 @@
-// The sheets, the listing and the book that are worked by hand: no code, only facts about the definitions (specs/).
+// The sheets, the listing and the books that are worked by hand: no code, only facts about the definitions (specs/).
 #![tactic(auto)]
