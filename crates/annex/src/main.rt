@@ -65,6 +65,6 @@ fn main(rt: HostRuntime) {
     let mut text: ArrayVec<u8, 131072> = ArrayVec::new();
     put_page(&mut text);
     if let Err(failure) = write(&mut io::writer(&rt), text.as_slice()) {
-        complain(&rt, "annex", &failure);
+        let _ = complain(&mut io::writer(&rt.stderr()), b"annex", failure.words());
     }
 }

@@ -3,7 +3,7 @@
 use mathlib.Core.Path.{◌≡◌, sym}
 use mathlib.Core.Bool.{cond}
 use Prim.Native.Nat.{ℕ, ◌+◌, ◌-◌, ◌*◌, ◌/◌, ◌%◌, ◌≤◌, ◌<◌}
-use native.Mathlib.Nat.{le_trans, le_of_mul-le-mul_right, le-div_iff_mul-le, div-lt_iff_lt-mul, div-mul-le_self, lt-div-mul-add, div-add-mod', mod-lt, div-eq_of_lt-le, pos_of_ne-zero, mul-le-mul_right}
+use native.Mathlib.Nat.{le_trans, le_of_mul-le-mul_right, le-div_iff_mul-le, div-lt_iff_lt-mul, div-mul-le_self, lt-div-mul-add, div-add-mod', mod-lt, div-eq_of_lt-le, pos_of_ne-zero, le-mul_of_pos_right, mul-le-mul_right}
 use native.Mathlib.Omega.{arith}
 use lib.Dec.{eqb, eqb→eq}
 use Rattle.std.proofs.lemmas.Bool.{cond_both, eqb-false}
@@ -34,13 +34,16 @@ ceiling_mono p q hp hq le = ceiling_least p (ceiling q) hp (le_of_mul-le-mul_rig
 
 -- by one division: the quotient itself where nothing is left over, else the next number
 module _ (n d : ℕ) (pos : 0 < d) where
-  ceiling_whole : n % d ≡ 0 → ceiling (n over d) ≡ n / d
+  pub ceiling_whole : n % d ≡ 0 → ceiling (n over d) ≡ n / d
   ceiling_whole none = div-eq_of_lt-le d {m = n + (d - 1)} (omega (arith, div-add-mod' n d)) (omega (arith, div-add-mod' n d))
 
-  ceiling_next : ¬ (n % d ≡ 0) → ceiling (n over d) ≡ n / d + 1
+  pub ceiling_next : ¬ (n % d ≡ 0) → ceiling (n over d) ≡ n / d + 1
   ceiling_next some =
       let left = pos_of_ne-zero some in
       div-eq_of_lt-le d {m = n + (d - 1)} (omega (arith, div-add-mod' n d)) (omega (arith, div-add-mod' n d, mod-lt n pos))
+
+  pub next_fits : ¬ (n % d ≡ 0) → n / d + 1 ≤ n
+  next_fits some = omega (arith, pos_of_ne-zero some, le-mul_of_pos_right (n / d) pos, div-add-mod' n d)
 
   pub ceiling_by_parts : cond (eqb (n % d) 0) (n / d) (n / d + 1) ≡ ceiling (n over d)
   ceiling_by_parts =

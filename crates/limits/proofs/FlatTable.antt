@@ -13,7 +13,7 @@ use Rattle.temperatures.specs.declared.Temperature.{Temperature}
 use Rattle.temperatures.specs.Temperature.{zero_degrees, tenths_celsius}
 use Rattle.limits.specs.Limits.{column, interpolated, loss_limit}
 use Rattle.limits.specs.FlatTable.{flat_table, place, Placement}
-use Rattle.limits.proofs.Rows.{nth, row_indexed, limit_at_lem}
+use Rattle.limits.proofs.Rows.{nth, row_indexed, row_present, limit_at_lem}
 
 -- what the list holds for a service, counted from 0, and a row, with a blank one after the last
 abbrev Held : ℕ → ℕ → Type 0
@@ -46,6 +46,6 @@ limit_is service t from given =
     rw (
       limit_at_lem service t n ((t.0 - (zero_degrees + 500)) % 500) (omega arith),
       add-one n,
-      listed service n given.0 given.1 (omega arith),
+      placement.holds n service (nth n) (row_present n (omega arith)) given.0 given.1,
       listed service (suc n) given.0 given.1 (omega arith),
     )

@@ -79,6 +79,6 @@ fn main(rt: HostRuntime) {
     let mut block = [0; 12_288];
     let mut text = ArrayVec::new();
     if let Err(failure) = list_all(&mut io::writer(&rt), &mut rt.stdin(), &mut block, &mut text) {
-        complain(&rt, "listing", &failure);
+        let _ = complain(&mut io::writer(&rt.stderr()), b"listing", failure.words());
     }
 }

@@ -58,13 +58,13 @@ pub record Next (d i : ℕ) (s x : Bounds) : Type 0 where
   pub lower_fits : s.lower + x.lower < 2 ^ 64
   pub upper_fits : s.upper + x.upper < 2 ^ 64
 
-pub next : {d i : ℕ} {s x : Bounds} → 100 ≤ d → d ≤ i → i < 16000 → s ≡ log_bounds (tenths d) (tenths i) → x ≡ step_bounds i → Next d i s x
-next {d} {i} from le lt sum step =
+pub next : {d i j : ℕ} {s x : Bounds} → 100 ≤ d → d ≤ i → i < 16000 → s ≡ log_bounds (tenths d) (tenths i) → x ≡ step_bounds j → j ≡ i → Next d i s x
+next {d} {i} from le lt sum step here =
     let lower = one_more lower_step le in
     let upper = one_more upper_step le in
     let lower_fits = log_small lower_step lower_small {d = d} (i + 1) from in
     let upper_fits = log_small upper_step upper_small {d = d} (i + 1) from in
-    rw (sum, step) record { sum = both_of (sym lower) (sym upper); lower_fits = omega arith; upper_fits = omega arith }
+    rw (sum, step, here) record { sum = both_of (sym lower) (sym upper); lower_fits = omega arith; upper_fits = omega arith }
 
 -- The logarithms p from 10.0 mm to d, q from d to e, and r from 10.0 mm to e, which fits.
 pub record Joined (p q r : Bounds) : Type 0 where

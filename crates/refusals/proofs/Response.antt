@@ -45,6 +45,13 @@ first_at k [] bytes none e = cc
 first_at zero (c ∷ cs) bytes none e = rw e
 first_at (suc k) (c ∷ cs) bytes none e = rw none.0 (first_at k cs bytes none.1 e)
 
+-- the next case fails too
+pub none_more : (k : ℕ) (cs : List Case) → NoneHolds (take k cs) → (nth k cs).holds ≡ false → NoneHolds (take (suc k) cs)
+unfolding NoneHolds
+none_more k [] none e = tt
+none_more zero (c ∷ cs) none e = (e, tt)
+none_more (suc k) (c ∷ cs) none e = (none.0, none_more k cs none.1 e)
+
 -- no case of the list has the number n
 unfoldable pub absent : ℕ → List Case → Bool
 absent n [] = true

@@ -66,7 +66,7 @@ pub record FirstPart (k n d u : ℕ) : Type 0 where
   pub top : k * (2 * (k * u) + k) ≤ 2 ^ 12 * 2 ^ 46
 
 -- a bound on a product, from numerals above its factors
-product_le : {x y : ℕ} (a b : ℕ) → x ≤ a → y ≤ b → x * y ≤ a * b
+pub product_le : {x y : ℕ} (a b : ℕ) → x ≤ a → y ≤ b → x * y ≤ a * b
 product_le a b h h' = mul-le-mul h h'
 
 pub first_part : (k n d u : ℕ) → 0 < k → k < 4096 → 0 < d → u * u ≤ n / d → n / d < (u + 1) * (u + 1) → u < 2 ^ 32 → FirstPart k n d u

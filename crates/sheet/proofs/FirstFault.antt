@@ -15,7 +15,7 @@ use Rattle.refusals.specs.Range.{outside}
 use Rattle.refusals.proofs.Range.{inside as within}
 use Rattle.sheet.specs.declared.fields.Sheet.{Sheet}
 use Rattle.sheet.specs.declared.faults.Field.{Field}
-use Rattle.sheet.specs.Fields.{unused, aim_fields, first_fault}
+use Rattle.sheet.specs.Fields.{unused, economy_fields, aim_fields, first_fault}
 
 or_none : (o : Option Field) → option_or o None ≡ o
 or_none None = refl
@@ -28,6 +28,22 @@ pub aim_at_end :
 unfolding first_fault
 aim_at_end n s true fs = rw (find-append, append-nil, and-false, or_none)
 aim_at_end n s false fs = refl
+
+-- The fields that only some goals use: none of them is a code, and an aim has no range.
+module _ (s : Sheet) where
+  pub no_codes : (economy aim : Bool) → first_fault 12 (economy_fields economy s ++ aim_fields aim s) ≡ None
+  unfolding first_fault
+  no_codes true true = refl
+  no_codes true false = refl
+  no_codes false true = refl
+  no_codes false false = refl
+
+  pub own_ranges : (economy aim : Bool) → first_fault 13 (economy_fields economy s ++ aim_fields aim s) ≡ first_fault 13 (economy_fields economy s)
+  unfolding first_fault
+  own_ranges true true = refl
+  own_ranges true false = refl
+  own_ranges false true = refl
+  own_ranges false false = refl
 
 -- No fault of a refusal in a field and in those behind it: the field, if it is one of that refusal, is inside its range.
 pub record Inside (n : ℕ) (f : Field) (fs : List Field) : Type 0 where

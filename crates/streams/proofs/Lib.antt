@@ -1,1 +1,2 @@
 pub mod Consumed
+pub mod Message

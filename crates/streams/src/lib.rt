@@ -4,8 +4,11 @@
 ghost use Rattle.std.specs.Prelude.{◌≡◌, ◌+◌, ◌<◌, ◌≤◌, length, take, drop, IfOk, IfErr, OnOk, OnErr};
 ghost use Rattle.std.specs.Io.KnownBytes.{Appends, Consumes, Keeps, IsAtEnd};
 ghost use Rattle.streams.specs.declared.Failure.TheVariants.{Read, Write};
+ghost use Rattle.streams.specs.Message.{words, complaint};
 
-use std::{fmt, io};
+use arrayvec::ArrayVec;
+use std::io;
+use text::TextSink;
 
 // Why a program stops.
 #[derive(Clone, Copy, Debug, PartialEq, Eq)]
@@ -14,11 +17,14 @@ pub enum Failure {
     Write,
 }
 
-impl fmt::Display for Failure {
-    fn fmt<W: fmt::Write>(&self, f: &mut fmt::Formatter<W>) -> fmt::Result {
+impl Failure {
+    // What a program says of it.
+    pub fn words(self) -> &'static [u8]
+        ensures { result.now ≡ words self }
+    {
         match self {
-            Failure::Read => f.write_str("cannot read"),
-            Failure::Write => f.write_str("cannot write"),
+            Failure::Read => b"cannot read",
+            Failure::Write => b"cannot write",
         }
     }
 }
@@ -68,8 +74,40 @@ pub fn write<W: io::Write>(out: &mut W, bytes: &[u8]) -> Result<(), Failure>
     out.write_all(bytes).map_err(|_| Failure::Write)
 }
 
-// Says on standard error why a program stops, if that can be written. No contract: `Eprint` promises nothing of what it prints, and a writer
-// that does would take the message in pieces.
-pub fn complain(rt: &impl Eprint, program: &str, why: &impl fmt::Display) {
-    let _ = eprintln!(rt; "{program}: {why}");
+// Says why a program stops: in one write where the message has at most 64 bytes, as all messages of the programs have.
+pub fn complain<W: io::Write>(to: &mut W, program: &[u8], why: &[u8]) -> Result<(), Failure>
+    ensures ok { OnOk result (Appends (W.contents to.old) (W.contents to.new) (complaint program.now why.now)) }
+    ensures err { IfErr result (λ failure. failure ≡ Write) }
+{
+    if program.len() + why.len() <= 61 {
+        complain_at_once(to, program, why)
+    } else {
+        complain_in_pieces(to, program, why)
+    }
+}
+
+// In one write.
+fn complain_at_once<W: io::Write>(to: &mut W, program: &[u8], why: &[u8]) -> Result<(), Failure>
+    requires { length program.now + length why.now ≤ 61 }
+    ensures ok { OnOk result (Appends (W.contents to.old) (W.contents to.new) (complaint program.now why.now)) }
+    ensures err { IfErr result (λ failure. failure ≡ Write) }
+{
+    let mut text: ArrayVec<u8, 64> = ArrayVec::new();
+    text.put(program);
+    text.put(b": ");
+    text.put(why);
+    text.put(b"\n");
+    write(to, text.as_slice())
+}
+
+// In a write for each of its parts.
+#[tactic(auto, using(crate::proofs::Message::in_pieces))]
+fn complain_in_pieces<W: io::Write>(to: &mut W, program: &[u8], why: &[u8]) -> Result<(), Failure>
+    ensures ok { OnOk result (Appends (W.contents to.old) (W.contents to.new) (complaint program.now why.now)) }
+    ensures err { IfErr result (λ failure. failure ≡ Write) }
+{
+    write(to, program)?;
+    write(to, b": ")?;
+    write(to, why)?;
+    write(to, b"\n")
 }

@@ -7,7 +7,6 @@ use native.Mathlib.Omega.{arith}
 use native.Mathlib.Nat.{mod-eq_of_lt, pow-le-pow_right}
 use borrow.Author.Tests.{lt-ltb, le-ltb}
 use Rattle.io.specs.Digits.{last_digits, IsDigitCount}
-use Rattle.overlay.specs.Overlay.{Written}
 use Rattle.text.specs.Text.{decimal_up_to, decimal}
 
 one_digit : (f n : ℕ) → n < 10 → decimal_up_to f n ≡ (48 + n) ∷ []
@@ -30,9 +29,9 @@ fewest n (suc k) few =
     let count : suc k - 1 ≡ k = omega arith in
     spelt k n n few.1 (λ some. rw count at (few.2 (omega arith))) (omega arith)
 
--- what `io::decimal` ensures of its digits
-pub in_decimal : {b v c : List ℕ} {offset n k e : ℕ} → Written b offset v c e → v ≡ last_digits 10 k n → IsDigitCount 10 1 n k → Written b offset (decimal n) c e
-in_decimal {n = n} {k} written is few = rw (is, fewest n k few) at written
+-- what `io::decimal` ensures of its digits: what holds of them, as that they were put, holds of the decimal digits
+pub in_decimal : (P : List ℕ → Type 0) {v : List ℕ} {n k : ℕ} → P v → v ≡ last_digits 10 k n → IsDigitCount 10 1 n k → P (decimal n)
+in_decimal P {n = n} {k} put is few = rw (is, fewest n k few) at put
 
 -- a u64 has 20 digits at the most
 pub at_most_20 : {n k : ℕ} → IsDigitCount 10 1 n k → n < 2 ^ 64 → k ≤ 20

@@ -1,9 +1,9 @@
 // A text in lent bytes.
 ghost use Rattle.std.specs.Prelude.{◌≡◌, ◌+◌, length};
-ghost use Rattle.overlay.specs.Overlay.{overlay};
-ghost use Rattle.overlay.proofs.Overlay.{nothing, overlay_more};
+ghost use Rattle.overlay.specs.Overlay.{overlay, Written};
+ghost use Rattle.overlay.proofs.Overlay.{nothing, then as one_after_another};
 ghost use Rattle.overlay.proofs.Parts.{length_overlay};
-ghost use Rattle.std.proofs.Common.{refl, add-zero, add_assoc, length-append};
+ghost use Rattle.std.proofs.Common.{refl, add-zero};
 
 use crate::sink::TextSink;
 use overlay::put;
@@ -48,7 +48,9 @@ impl TextSink for LentText<'_> {
 
     ghost none = { λ t. Prim.rw (nothing t.bytes.now t.end, add-zero) refl };
 
-    ghost then = { λ t a b. Prim.rw (overlay_more t.bytes.now t.end a b, length-append, add_assoc) refl };
+    ghost then = { λ t a b.
+        let both = one_after_another {b = t.bytes.now} {v = a} {w = b} {offset = t.end} (record { end = refl; bytes = refl }) (record { end = refl; bytes = refl }) in
+        Prim.rw (both.bytes, both.end) refl };
 
     ghost filled_after = { λ t a. refl };
 

@@ -27,7 +27,6 @@ pub trait TextSink {
     ghost room_after: { (s : Self) (a : List ℕ) → filled s + length a ≤ room s → room (with_text s a) ≡ room s };
 
     // Puts n in decimal digits, of which a u64 has 20 at the most. `io::decimal` fills lent bytes and returns their number.
-    #[tactic(auto, using(crate::proofs::Decimal::fewest))]
     final fn put_decimal(&mut self, n: u64)
         requires { filled self.old + 20 ≤ room self.old }
         ensures written { self.new ≡ with_text self.old (decimal n) }

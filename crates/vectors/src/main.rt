@@ -131,9 +131,14 @@ fn main(rt: HostRuntime) {
     let mut input = rt.stdin();
     let (length, _) = fill(&mut input, &mut room);
     if length == room.len() {
-        return complain(&rt, "vectors", &"more than 327,679 bytes");
+        let _ = complain(
+            &mut io::writer(&rt.stderr()),
+            b"vectors",
+            b"more than 327,679 bytes",
+        );
+        return;
     }
     if let Err(failure) = expect_end(&mut input).and_then(|_| run(&rt, &room[..length])) {
-        complain(&rt, "vectors", &failure);
+        let _ = complain(&mut io::writer(&rt.stderr()), b"vectors", failure.words());
     }
 }

@@ -5,7 +5,7 @@ use Rattle.logarithm.proofs.log_by_steps.Goals.{After-step}
 use Rattle.logarithm.proofs.log_by_steps.Goals as goal
 
 after : (c : After-step) → Next c.args.d.0 c.loop-i.i c.loop-i.log c.step.result
-after c = next c.requires.0 c.loop-i.invariant.0 (omega arith) c.loop-i.invariant.1 c.step.ensures
+after c = next c.requires.0 c.loop-i.invariant.0 (omega arith) c.loop-i.invariant.1 c.step.ensures (omega arith)
 
 pub loop-i-init : goal.loop-i-init
 loop-i-init c = (omega arith, c.exact-log.ensures ∙ none c.args.d.0)

@@ -18,7 +18,7 @@ pub sub-requires : goal.sub-requires
 sub-requires c = omega (arith, down (goal.at.sub-requires c).After-log_by_steps)
 
 pub add-requires : goal.add-requires
-add-requires c = omega (arith, up (goal.at.add-requires c).After-log_by_steps-else-e-near)
+add-requires c = grind (arith, up (goal.at.add-requires c).After-log_by_steps-else-e-near)
 
 pub returns-then-e-near : goal.returns-then-e-near
 returns-then-e-near c =
@@ -28,4 +28,4 @@ returns-then-e-near c =
 pub returns-else-e-near : goal.returns-else-e-near
 returns-else-e-near c =
     let sum = up (goal.at.returns-else-e-near c).After-log_by_steps-else-e-near in
-    c.add.ensures ∙ both_of (omega arith) (omega arith)
+    grind (arith, c.add.ensures, sum.lower, sum.upper)
