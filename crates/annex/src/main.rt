@@ -9,7 +9,7 @@ ghost use Rattle.annex.specs.Page.{line, entry_line, limits_line, page};
 use arrayvec::ArrayVec;
 use fractions::Bounds;
 use std::io;
-use streams::{complain, write};
+use streams::{complain_to, write};
 use text::TextSink;
 
 // Puts the line of a whole millimetre.
@@ -65,6 +65,6 @@ fn main(rt: HostRuntime) {
     let mut text: ArrayVec<u8, 131072> = ArrayVec::new();
     put_page(&mut text);
     if let Err(failure) = write(&mut io::writer(&rt), text.as_slice()) {
-        let _ = complain(&mut io::writer(&rt.stderr()), b"annex", failure.words());
+        let _ = complain_to(&mut io::writer(&rt.stderr()), b"annex", failure.words());
     }
 }

@@ -8,7 +8,7 @@ ghost use Rattle.listing.specs.Block.{ListsBlock, ListsAll};
 
 use arrayvec::ArrayVec;
 use std::io;
-use streams::{Failure, complain, fill, write};
+use streams::{Failure, complain_to, fill, write};
 
 // How many bytes of a block are listed: all, but where a read failed no more than the whole sheets.
 fn listed_length(length: usize, failed: bool) -> usize
@@ -79,6 +79,6 @@ fn main(rt: HostRuntime) {
     let mut block = [0; 12_288];
     let mut text = ArrayVec::new();
     if let Err(failure) = list_all(&mut io::writer(&rt), &mut rt.stdin(), &mut block, &mut text) {
-        let _ = complain(&mut io::writer(&rt.stderr()), b"listing", failure.words());
+        let _ = complain_to(&mut io::writer(&rt.stderr()), b"listing", failure.words());
     }
 }

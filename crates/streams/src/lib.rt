@@ -1,13 +1,16 @@
 // Standard streams: input in blocks, and what a program says where it has to stop.
 #![tactic(auto)]
 
-ghost use Rattle.std.specs.Prelude.{◌≡◌, ◌+◌, ◌<◌, ◌≤◌, length, take, drop, IfOk, IfErr, OnOk, OnErr};
+ghost use Rattle.std.specs.Prelude.{◌≡◌, ◌+◌, ◌<◌, ◌≤◌, length, take, drop, Some, IfOk, IfErr, OnOk, OnErr};
 ghost use Rattle.std.specs.Io.KnownBytes.{Appends, Consumes, Keeps, IsAtEnd};
 ghost use Rattle.streams.specs.declared.Failure.TheVariants.{Read, Write};
 ghost use Rattle.streams.specs.Message.{words, complaint};
 
+#[cfg(test)]
+mod tests;
+
 use arrayvec::ArrayVec;
-use std::io;
+use std::{fmt, io};
 use text::TextSink;
 
 // Why a program stops.
@@ -26,6 +29,14 @@ impl Failure {
             Failure::Read => b"cannot read",
             Failure::Write => b"cannot write",
         }
+    }
+}
+
+impl fmt::Display for Failure {
+    ghost output = { λ failure. Some (words failure) };
+
+    fn fmt<W: fmt::Write>(&self, f: &mut fmt::Formatter<W>) -> fmt::Result {
+        f.write_str(str::from_utf8(self.words()).unwrap())
     }
 }
 
@@ -74,8 +85,14 @@ pub fn write<W: io::Write>(out: &mut W, bytes: &[u8]) -> Result<(), Failure>
     out.write_all(bytes).map_err(|_| Failure::Write)
 }
 
+// Says on standard error why a program stops, if that can be written. No contract: `Eprint` promises nothing of what it prints; `complain_to`
+// promises its message.
+pub fn complain(rt: &impl Eprint, program: &str, why: &impl fmt::Display) {
+    let _ = eprintln!(rt; "{program}: {why}");
+}
+
 // Says why a program stops: in one write where the message has at most 64 bytes, as all messages of the programs have.
-pub fn complain<W: io::Write>(to: &mut W, program: &[u8], why: &[u8]) -> Result<(), Failure>
+pub fn complain_to<W: io::Write>(to: &mut W, program: &[u8], why: &[u8]) -> Result<(), Failure>
     ensures ok { OnOk result (Appends (W.contents to.old) (W.contents to.new) (complaint program.now why.now)) }
     ensures err { IfErr result (λ failure. failure ≡ Write) }
 {

@@ -10,7 +10,7 @@ use arrayvec::ArrayVec;
 use hexadecimal::decode;
 use outcome::work_out;
 use std::io;
-use streams::{Failure, complain, fill, write};
+use streams::{Failure, complain_to, fill, write};
 
 // Writes the sheet's line of the listing.
 fn list<W: io::Write>(out: &mut W, sheet: &[u8]) -> Result<(), Failure>
@@ -131,7 +131,7 @@ fn main(rt: HostRuntime) {
     let mut input = rt.stdin();
     let (length, _) = fill(&mut input, &mut room);
     if length == room.len() {
-        let _ = complain(
+        let _ = complain_to(
             &mut io::writer(&rt.stderr()),
             b"vectors",
             b"more than 327,679 bytes",
@@ -139,6 +139,6 @@ fn main(rt: HostRuntime) {
         return;
     }
     if let Err(failure) = expect_end(&mut input).and_then(|_| run(&rt, &room[..length])) {
-        let _ = complain(&mut io::writer(&rt.stderr()), b"vectors", failure.words());
+        let _ = complain_to(&mut io::writer(&rt.stderr()), b"vectors", failure.words());
     }
 }
